@@ -1,0 +1,5 @@
+pub mod Refusals
+pub mod Cells
+pub mod Laws
+pub mod Hex
+pub mod Captured

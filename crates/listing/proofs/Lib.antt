@@ -1,0 +1,5 @@
+pub mod Joins
+pub mod Shares
+pub mod Numbered
+pub mod Wholes
+pub mod Lengths
