@@ -66,7 +66,7 @@ impl<'a> Line<'a> {
     {
         let len = self.len();
         let count = bytes.len();
-        if self.places.len() - len < count {
+        if self.free() < count {
             return Err(Full);
         }
         put_text(self.places, len, bytes);
@@ -83,7 +83,7 @@ impl<'a> Line<'a> {
     {
         let len = self.len();
         let count = count_digits(n);
-        if self.places.len() - len < count {
+        if count > self.free() {
             return Err(Full);
         }
         put_digits(self.places, len, count, n);

@@ -36,8 +36,14 @@ rest-long : (cs : List Cell) (k : ℕ) → k < 2 ^ 64 → length cs < 2 ^ 64 →
 rest-long cs k h l =
     let w = length cs - k in
     let part = behindComma (bytesText (partOf cs k w)) in
-    omega (arith, part-long cs k w, length-decimal-few k h, length-decimal-few w (omega arith),
-    length-append (behindComma (decimal k)) (behindComma (decimal w) ++ part), length-append (behindComma (decimal w)) part)
+    omega (
+      arith,
+      part-long cs k w,
+      length-decimal-few k h,
+      length-decimal-few w (omega arith),
+      length-append (behindComma (decimal k)) (behindComma (decimal w) ++ part),
+      length-append (behindComma (decimal w)) part,
+    )
 
 -- a fault at a place of a capture
 pair-long : (p : ℕ) → p < 2 ^ 64 → length (toldText (badPair p)) ≤ 60

@@ -5,22 +5,22 @@ use cells::bytes::BytesStore;
 use cells::capture::Capture;
 use cells::capture::CaptureSource;
 use cells::cell::ReadFault;
-use cells::join::Join;
-use cells::join::JoinSource;
-use cells::join::JoinStore;
 use cells::source::Source;
 use cells::source::Store;
-use cells::swap::Swap;
-use cells::swap::SwapSource;
-use cells::swap::SwapStore;
-use cells::window::Window;
-use cells::window::WindowSource;
-use cells::window::WindowStore;
 use cells::words::Words;
 use cells::words::WordsSource;
 use cells::words::WordsStore;
 use deep::Worn;
 use deep::WornSource;
+use layers::join::Join;
+use layers::join::JoinSource;
+use layers::join::JoinStore;
+use layers::swap::Swap;
+use layers::swap::SwapSource;
+use layers::swap::SwapStore;
+use layers::window::Window;
+use layers::window::WindowSource;
+use layers::window::WindowStore;
 use std::error::AnyError;
 use std::io;
 
@@ -35,7 +35,10 @@ fn show(rt: &LibcRuntime, answer: Result<u8, ReadFault>) -> io::Result<()> {
             match (told.place, told.lost, told.layers) {
                 (Some(k), _, _) => println!(rt, "  refused with {number}: no cell {k}"),
                 (_, Some(place), Some(layers)) => {
-                    println!(rt, "  refused with {number}: lost at {place}, {layers} layers")
+                    println!(
+                        rt,
+                        "  refused with {number}: lost at {place}, {layers} layers"
+                    )
                 }
                 _ => println!(rt, "  refused with {number}"),
             }
@@ -83,7 +86,10 @@ fn over_words(rt: &LibcRuntime) -> io::Result<()> {
     let mut one = [0x0102, 0x0304];
     let mut two = [0x0506, 0x0708];
     {
-        let mut pile = Join::new(Words::new(&mut one), Window::new(Words::new(&mut two), 1, 9));
+        let mut pile = Join::new(
+            Words::new(&mut one),
+            Window::new(Words::new(&mut two), 1, 9),
+        );
         show_all(rt, &pile)?;
         println!(rt, " written: cell 1, cell 4, cell 7")?;
         show(rt, pile.write(1, 0x1a))?;
@@ -93,58 +99,54 @@ fn over_words(rt: &LibcRuntime) -> io::Result<()> {
     println!(rt, "  {one:?} {two:?}")
 }
 
+// Writes the last cell, and then past the end.
+fn show_end<S: Store>(rt: &LibcRuntime, store: &mut S) -> io::Result<()> {
+    let count = store.len();
+    println!(rt, "  {count} cells")?;
+    show(rt, store.write(count.saturating_sub(1), 7))?;
+    show(rt, store.write(count, 8))?;
+    show(rt, store.read(count))
+}
+
 fn cut_join(rt: &LibcRuntime) -> Result<(), AnyError> {
     println!(rt, "a join of 40,000 and 40,000 bytes, cut at 65,535")?;
     let mut one = vec![in rt.alloc(); 1u8; 40_000]?;
     let mut two = vec![in rt.alloc(); 2u8; 40_000]?;
     {
         let mut pile = Join::new(Bytes::new(one.as_mut_slice()), Bytes::new(two.as_mut_slice()));
-        let count = pile.len();
-        println!(rt, "  {count} cells")?;
-        for k in [39_999, 40_000, 65_534, 65_535] {
-            show(rt, pile.read(k))?;
-        }
-        println!(rt, " written: cell 39,999, cell 65,534, cell 65,535")?;
-        show(rt, pile.write(39_999, 7))?;
-        show(rt, pile.write(65_534, 8))?;
-        show(rt, pile.write(65_535, 9))?;
+        show(rt, pile.write(39_999, 6))?;
+        show(rt, pile.read(40_000))?;
+        show_end(rt, &mut pile)?;
     }
-    let first = one.as_slice()[39_998..].to_vec(rt.alloc())?;
-    let second = two.as_slice()[25_533..25_537].to_vec(rt.alloc())?;
+    let first = &one.as_slice()[39_998..];
+    let second = &two.as_slice()[25_533..25_537];
     println!(rt, "  {first:?} {second:?}")?;
     Ok(())
 }
 
-fn past_limits(rt: &LibcRuntime) -> Result<(), AnyError> {
+fn past_bytes(rt: &LibcRuntime) -> Result<(), AnyError> {
     println!(rt, "65,537 bytes, of which 65,535 count")?;
     let mut bytes = vec![in rt.alloc(); 1u8; 65_537]?;
-    {
-        let mut store = Bytes::new(bytes.as_mut_slice());
-        let count = store.len();
-        println!(rt, "  {count} cells")?;
-        show(rt, store.write(65_534, 7))?;
-        show(rt, store.write(65_535, 8))?;
-        show(rt, store.read(65_535))?;
-    }
-    let end = bytes.as_slice()[65_533..].to_vec(rt.alloc())?;
+    show_end(rt, &mut Bytes::new(bytes.as_mut_slice()))?;
+    let end = &bytes.as_slice()[65_533..];
     println!(rt, "  {end:?}")?;
+    Ok(())
+}
+
+fn past_words(rt: &LibcRuntime) -> Result<(), AnyError> {
     println!(rt, "32,769 words, of which 32,767 count")?;
     let mut words = vec![in rt.alloc(); 0x0102u16; 32_769]?;
-    {
-        let mut store = Words::new(words.as_mut_slice());
-        let count = store.len();
-        println!(rt, "  {count} cells")?;
-        show(rt, store.write(65_533, 7))?;
-        show(rt, store.write(65_534, 8))?;
-        show(rt, store.read(65_534))?;
-    }
-    let end = words.as_slice()[32_765..].to_vec(rt.alloc())?;
+    show_end(rt, &mut Words::new(words.as_mut_slice()))?;
+    let end = &words.as_slice()[32_765..];
     println!(rt, "  {end:?}")?;
     Ok(())
 }
 
 fn held_layers(rt: &LibcRuntime) -> io::Result<()> {
-    println!(rt, "a mark that has come through 253 layers, under one, two and three more")?;
+    println!(
+        rt,
+        "a mark that has come through 253 layers, under one, two and three more"
+    )?;
     let once = Swap::new(Worn::new(253));
     show(rt, once.read(0))?;
     let twice = Window::new(Swap::new(Worn::new(253)), 0, 1);
@@ -158,7 +160,8 @@ fn run(rt: &LibcRuntime) -> Result<(), AnyError> {
     over_capture(rt)?;
     over_words(rt)?;
     cut_join(rt)?;
-    past_limits(rt)?;
+    past_bytes(rt)?;
+    past_words(rt)?;
     held_layers(rt)?;
     Ok(())
 }

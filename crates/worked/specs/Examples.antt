@@ -8,7 +8,8 @@ use Rattle.told.specs.Answers.{given, refused}
 use Rattle.cells.specs.declared.cell.Mark.{Mark}
 use Rattle.cells.specs.declared.cell.Cell.{Cell}
 use Rattle.cells.specs.declared.cell.Cell.the-variants.{Byte, Lost}
-use Rattle.cells.specs.Cells.{readOf, swapped, windowed}
+use Rattle.cells.specs.Cells.{readOf}
+use Rattle.layers.specs.Layers.{swapped, windowed}
 use Rattle.cells.specs.Captured.{opened}
 use Rattle.cells.specs.Refusals.{badPair, lostCell}
 

@@ -4,5 +4,4 @@ ghost use Rattle.worked.specs.Examples.{Examples};
 // Does nothing; that it is proved says that every example of the table holds.
 pub fn worked_examples_hold()
     ensures { λ _. ⌜ Examples ⌝ }
-{
-}
+{}

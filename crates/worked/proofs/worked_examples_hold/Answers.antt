@@ -2,7 +2,8 @@ use mathlib.Core.Path.{_≡_, refl, ap}
 use mathlib.Core.List.{List, [], _∷_}
 use Rattle.cells.specs.declared.cell.Cell.{Cell}
 use Rattle.cells.specs.declared.cell.Cell.the-variants.{Byte, Lost}
-use Rattle.cells.specs.Cells.{readOf, swapped, windowed}
+use Rattle.cells.specs.Cells.{readOf}
+use Rattle.layers.specs.Layers.{swapped, windowed}
 use Rattle.cells.specs.Captured.{captureCells}
 use Rattle.worked.specs.Examples.{Swap-of-three, Window-on-four, Capture-of-four, Lost-under-window, Cut-pair}
 use Rattle.worked.proofs.worked_examples_hold.Needs as need

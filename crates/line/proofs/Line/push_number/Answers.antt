@@ -13,9 +13,9 @@ use Rattle.line.proofs.Line.push_number.Needs as need
 pub put-digits-requires : need.put-digits-requires
 put-digits-requires c κs = record { digits = c .count-digits-count .ensures; within = omega arith }
 
-pub returns-then-self-len : need.returns-then-self-len
-returns-then-self-len c =
-    let few : room (c .args .self .now) < used (c .args .self .now) + length (decimal (c .args .n)) = omega (arith, c .count-digits-count .ensures, c .len-len .ensures .value) in
+pub returns-then-count-free : need.returns-then-count-free
+returns-then-count-free c =
+    let few : room (c .args .self .now) < used (c .args .self .now) + length (decimal (c .args .n)) = omega arith in
     record {
       numeral = writes-decimal (c .args .n) (omega arith);
       value = (few, refl);
