@@ -22,6 +22,14 @@ fn put_text(places: &mut [u8], at: usize, bytes: &[u8])
     places[at..end].copy_from_slice(bytes);
 }
 
+// The first `count` of the places.
+fn front(places: &[u8], count: usize) -> &[u8]
+    requires { ⌜ count ≤ length (now places) ⌝ }
+    ensures { λ r. ⌜ now r ≡ take count (now (places .entry)) ⌝ }
+{
+    &places[0..count]
+}
+
 impl<'a> Line<'a> {
     pub fn new(places: &'a mut [u8]) -> Self
         ensures empty { λ r. ⌜ text r ≡ [] ⌝ }
@@ -48,7 +56,7 @@ impl<'a> Line<'a> {
     pub fn as_bytes(&self) -> &[u8]
         ensures { λ r. ⌜ now r ≡ text (now (self .entry)) ⌝ }
     {
-        &self.places[..self.len()]
+        front(self.places, self.len())
     }
 
     pub fn clear(&mut self)

@@ -113,7 +113,10 @@ fn cut_join(rt: &LibcRuntime) -> Result<(), AnyError> {
     let mut one = vec![in rt.alloc(); 1u8; 40_000]?;
     let mut two = vec![in rt.alloc(); 2u8; 40_000]?;
     {
-        let mut pile = Join::new(Bytes::new(one.as_mut_slice()), Bytes::new(two.as_mut_slice()));
+        let mut pile = Join::new(
+            Bytes::new(one.as_mut_slice()),
+            Bytes::new(two.as_mut_slice()),
+        );
         show(rt, pile.write(39_999, 6))?;
         show(rt, pile.read(40_000))?;
         show_end(rt, &mut pile)?;
