@@ -20,7 +20,7 @@ pub fn count_digits(n: u64) -> usize
 }
 
 // Writes the digits of `n` from `at` on, each place once and no other place.
-pub fn put_digits(places: &mut [u8], at: usize, count: usize, n: u64)
+pub(crate) fn put_digits(places: &mut [u8], at: usize, count: usize, n: u64)
     requires digits { ⌜ count ≡ length (decimal n) ⌝ }
     requires within { ⌜ at + count ≤ length (now places) ⌝ }
     ensures { λ _. ⌜ now (places .exit) ≡ take at (now (places .entry)) ++ (decimal n ++ drop (at + count) (now (places .entry))) ⌝ }
@@ -42,7 +42,7 @@ fn hex_digit(d: u8) -> u8
 }
 
 // The two hexadecimal digits of a byte.
-pub fn hex_digits(byte: u8) -> [u8; 2]
+pub(crate) fn hex_digits(byte: u8) -> [u8; 2]
     ensures { λ r. ⌜ r ≡ hexText byte ⌝ }
 {
     [hex_digit(byte / 16), hex_digit(byte % 16)]
