@@ -1,13 +1,22 @@
 -- The whole text by the parts of the input.
 use Prim.Native.Nat.{ℕ}
-use mathlib.Core.Path.{_≡_, ap, _∙_}
+use mathlib.Core.Path.{_≡_, sym, ap, _∙_}
 use mathlib.Core.List.{List}
-use Rattle.told.specs.Answers.{Answer}
-use Rattle.cells.specs.declared.cell.Cell.{Cell}
+use Rattle.std.specs.declared.result.Result.{Result}
+use Rattle.std.specs.declared.result.Result.the-variants.{Ok, Err}
+use Rattle.told.specs.Answers.{asTold}
 use Rattle.cells.specs.Captured.{opened}
-use Rattle.input.specs.Parts.{captureText}
+use Rattle.sheet_text.specs.Refusals.{sheetTold}
+use Rattle.sheet_text.specs.declared.refusal.SheetRefusal.{SheetRefusal}
+use Rattle.sheet.specs.Sheets.{readOf}
+use Rattle.input.specs.Parts.{sheetText, captureText}
 use Rattle.listing.specs.Lines.{linesOf, outcomeOf, wholeText, listing}
 
-pub whole-is : (bs t : List ℕ) (a : Answer (List Cell)) → t ≡ captureText bs → a ≡ opened t → wholeText (linesOf (outcomeOf a)) ≡ listing bs
-unfolding listing
-whole-is bs t a e f = ap (λ x. wholeText (linesOf (outcomeOf x))) (f ∙ ap opened e)
+-- the two texts of an input, and what reading the first answered
+module _ (places : ℕ) (bs sheet capture : List ℕ) (cut : sheet ≡ sheetText bs) (cut-too : capture ≡ captureText bs)
+    (r : Result ℕ SheetRefusal) (answered : r ≡ readOf sheet places .result) where
+  pub whole-is : wholeText (linesOf (outcomeOf (asTold sheetTold r) (opened capture))) ≡ listing places bs
+  unfolding listing
+  whole-is =
+      ap (λ a. wholeText (linesOf (outcomeOf (asTold sheetTold a) (opened capture)))) (answered ∙ ap (λ t. readOf t places .result) cut)
+      ∙ ap (λ t. wholeText (linesOf (outcomeOf (asTold sheetTold (readOf (sheetText bs) places .result)) (opened t)))) cut-too

@@ -1,0 +1,13 @@
+pub mod Families
+pub mod ColumnLaws
+pub mod Failing
+pub mod Chains
+pub mod Nesting
+pub mod Faults
+pub mod Lawful
+pub mod Whole
+pub mod DepthLaws
+pub mod FieldLaws
+pub mod Depths
+pub mod Keeping
+pub mod Refusals

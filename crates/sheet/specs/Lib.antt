@@ -1,0 +1,10 @@
+pub mod Rules
+pub mod Checks
+pub mod Fields
+pub mod Depths
+pub mod Verdict
+pub mod Nests
+pub mod Keeps
+pub mod Refusing
+pub mod Readings
+pub mod Sheets

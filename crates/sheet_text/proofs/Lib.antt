@@ -1,0 +1,11 @@
+pub mod Names
+pub mod Numbers
+pub mod Lines
+pub mod Reading
+pub mod Counts
+pub mod Tests
+pub mod Plain
+pub mod Written
+pub mod Spelled
+pub mod Stated
+pub mod LineFaults

@@ -1,0 +1,9 @@
+pub mod Chars
+pub mod Values
+pub mod Table
+pub mod Lines
+pub mod Refusals
+pub mod Rows
+pub mod Plain
+pub mod States
+pub mod LineFaults
