@@ -52,7 +52,7 @@ fn whole_size<L: Lines>(listing: &L) -> usize
 }
 
 // Appends every line with its line feed, or refuses and changes nothing.
-pub fn write_all<L: Lines>(listing: &L, line: &mut Line<'_>) -> Result<(), Full>
+pub(crate) fn write_all<L: Lines>(listing: &L, line: &mut Line<'_>) -> Result<(), Full>
     ensures value { λ r. ⌜ Appended (now (line .entry)) (wholeText (L·Lines .lines (now (listing .entry)))) r (now (line .exit)) ⌝ }
     ensures lender { λ _. ⌜ name (now (line .exit) .places) ≡ name (now (line .entry) .places) ⌝ }
 {

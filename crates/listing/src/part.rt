@@ -46,7 +46,7 @@ fn part_end<S: Source>(source: &S, place: usize, width: usize) -> usize
 }
 
 // Appends a part behind a comma.
-pub fn put_part<S: Source>(line: &mut Line<'_>, source: &S, place: usize, width: usize)
+pub(crate) fn put_part<S: Source>(line: &mut Line<'_>, source: &S, place: usize, width: usize)
     ensures { λ _. ⌜ Fills (now (line .entry)) (behindComma (bytesText (partOf (S·Source .cells (now (source .entry))) place width))) (now (line .exit)) ⌝ }
 {
     let _ = line.push_byte(b',');
@@ -58,7 +58,7 @@ pub fn put_part<S: Source>(line: &mut Line<'_>, source: &S, place: usize, width:
     }
 }
 
-pub fn part_size<S: Source>(source: &S, place: usize, width: usize) -> usize
+pub(crate) fn part_size<S: Source>(source: &S, place: usize, width: usize) -> usize
     ensures { λ r. ⌜ r ≡ sized (behindComma (bytesText (partOf (S·Source .cells (now (source .entry))) place width))) ⌝ }
 {
     let end = part_end(source, place, width);

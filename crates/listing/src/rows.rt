@@ -55,7 +55,7 @@ fn tail_size<S: Source>(source: &S, word: &[u8], place: usize, width: usize) -> 
     (word.len() + 1).saturating_add(values)
 }
 
-pub fn put_rest<S: Source>(line: &mut Line<'_>, source: &S, covered: usize)
+pub(crate) fn put_rest<S: Source>(line: &mut Line<'_>, source: &S, covered: usize)
     ensures { λ _. ⌜ Fills (now (line .entry)) (restText (S·Source .cells (now (source .entry))) covered) (now (line .exit)) ⌝ }
 {
     let _ = line.push_text(b"rest");
@@ -68,7 +68,7 @@ pub fn put_rest<S: Source>(line: &mut Line<'_>, source: &S, covered: usize)
     );
 }
 
-pub fn rest_size<S: Source>(source: &S, covered: usize) -> usize
+pub(crate) fn rest_size<S: Source>(source: &S, covered: usize) -> usize
     ensures { λ r. ⌜ r ≡ sized (restText (S·Source .cells (now (source .entry))) covered) ⌝ }
 {
     let tail = tail_size(source, b"-", covered, source.len().saturating_sub(covered));
@@ -93,7 +93,7 @@ fn value_size(value: Option<u64>) -> usize
     }
 }
 
-pub fn put_told(line: &mut Line<'_>, told: Told)
+pub(crate) fn put_told(line: &mut Line<'_>, told: Told)
     ensures { λ _. ⌜ Fills (now (line .entry)) (toldText told) (now (line .exit)) ⌝ }
 {
     let _ = line.push_number(u64::from(told.number));
@@ -105,7 +105,7 @@ pub fn put_told(line: &mut Line<'_>, told: Told)
     put_value(line, told.layers);
 }
 
-pub fn told_size(told: Told) -> usize
+pub(crate) fn told_size(told: Told) -> usize
     ensures { λ r. ⌜ r ≡ sized (toldText told) ⌝ }
 {
     let lost = value_size(told.lost).saturating_add(value_size(told.layers));

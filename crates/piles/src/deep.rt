@@ -1,7 +1,6 @@
 // A source of another kind: one lost cell, whose mark has come through many layers.
 ghost use Prim.Native.Nat.{_≤_};
-ghost use mathlib.Core.List.{[], _∷_};
-ghost use Rattle.cells.specs.declared.cell.Cell.the-variants.{Lost};
+ghost use mathlib.Core.Path.{_≡_};
 ghost use Rattle.piles.specs.Worn.{worn, worn-lawful};
 use cells::cell::Mark;
 use cells::cell::ReadFault;
@@ -14,7 +13,9 @@ pub struct Worn {
 }
 
 impl Worn {
-    pub fn new(layers: u8) -> Worn {
+    pub(crate) fn new(layers: u8) -> Worn
+        ensures { λ r. ⌜ r .layers ≡ layers ⌝ }
+    {
         Worn { layers }
     }
 }
