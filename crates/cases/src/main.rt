@@ -1,4 +1,6 @@
 // Prints the listing of each input that the arguments name, and then of long inputs.
+#![tactic(auto)]
+
 use anyhow::anyhow;
 use input::INPUT_MAX;
 use line::Line;

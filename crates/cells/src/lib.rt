@@ -1,4 +1,6 @@
 // Cells, sources of them, stores that can be written, and the bottoms: bytes, words and captures.
+#![tactic(auto)]
+
 mod answers;
 pub mod bytes;
 pub mod capture;

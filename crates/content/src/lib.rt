@@ -1,4 +1,6 @@
 // Numbers: sums and products, and what the cells of a piece write.
+#![tactic(auto)]
+
 ghost use Rattle.std.specs.Prelude.{◌≡◌, ℕ, ◌+◌, ◌*◌, ◌≤◌};
 ghost use Rattle.meaning.specs.Values.{limited};
 ghost use Rattle.content.specs.Content.{held, held_value, value_of, truth_of};

@@ -1,4 +1,6 @@
 // The values of number and truth rows and the pieces that locations name, over any source of cells.
+#![tactic(auto)]
+
 ghost use Rattle.std.specs.Prelude.{◌≡◌};
 ghost use Rattle.told.specs.Answers.{as_told};
 ghost use Rattle.meaning.specs.Refusals.{eval_told};

@@ -1,4 +1,6 @@
 // The laws of readings. The functions do nothing; that they are proved says that the laws hold.
+#![tactic(auto)]
+
 ghost use Rattle.laws.specs.Laws.{OneReading, AcceptsReadings, CoveredCellsDecide, PathsDiffer, RowsUnfold, TypesShallow};
 
 // Of all lists of pieces at most one is a reading of a message by a sheet.

@@ -1,4 +1,6 @@
 // Layers over any source, which are stores where what they stand over are stores.
+#![tactic(auto)]
+
 mod answers;
 pub mod join;
 pub mod swap;

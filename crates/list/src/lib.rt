@@ -1,4 +1,6 @@
 // A bounded list: the first entries of a slice that the caller lends.
+#![tactic(auto)]
+
 ghost use Rattle.std.specs.Prelude.{◌≡◌, Bool};
 
 mod calls;

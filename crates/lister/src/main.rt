@@ -1,4 +1,6 @@
 // Reads a sheet and a capture from standard input, and prints the listing.
+#![tactic(auto)]
+
 use anyhow::anyhow;
 use input::INPUT_MAX;
 use line::Line;

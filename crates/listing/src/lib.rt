@@ -1,4 +1,6 @@
 // The listing of an input: its text as a function of the input's bytes.
+#![tactic(auto)]
+
 ghost use Rattle.std.specs.Prelude.{◌≡◌, ◌≤◌, length};
 ghost use Rattle.line.specs.Text.{Appended};
 ghost use Rattle.cells.specs.Captured.{opened};

@@ -1,5 +1,7 @@
 // What the rows of a checked sheet stand for, and what a reading of a message is: definitions in
 // specs/, and the fault of evaluation.
+#![tactic(auto)]
+
 mod fault;
 
 pub use fault::EvalFault;

@@ -1,4 +1,6 @@
 // Where a row stands: its path, and the records that are open around it.
+#![tactic(auto)]
+
 ghost use Rattle.std.specs.Prelude.{◌≡◌, ◌≤◌, true, length};
 ghost use Rattle.path.specs.Meaning.{path_of};
 ghost use Rattle.opened.specs.Below.{below};

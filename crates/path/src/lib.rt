@@ -1,4 +1,6 @@
 // Paths: where a piece stands below the root.
+#![tactic(auto)]
+
 ghost use Rattle.std.specs.Prelude.{◌≡◌, ◌≤◌, true, length, take};
 ghost use Rattle.sheet_text.specs.Chars.{is_name};
 

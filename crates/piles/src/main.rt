@@ -1,4 +1,6 @@
 // Piles of layers over the bottoms, read and written through.
+#![tactic(auto)]
+
 use cells::bytes::Bytes;
 use cells::capture::Capture;
 use cells::cell::ReadFault;

@@ -1,4 +1,6 @@
 // The rules of format sheets, and sheets that keep them.
+#![tactic(auto)]
+
 mod check;
 mod checked;
 mod depth;

@@ -1,4 +1,6 @@
 // The text of format sheets: values, words, lines, and the rows that the lines state.
+#![tactic(auto)]
+
 mod line;
 mod refusal;
 mod row;

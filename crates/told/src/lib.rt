@@ -1,4 +1,6 @@
 // How a refusal is told: its number, and the values that it carries.
+#![tactic(auto)]
+
 ghost use Rattle.std.specs.Prelude.{◌≡◌};
 ghost use Rattle.told.specs.Answers.{bare};
 
