@@ -32,9 +32,9 @@ pub trait Store: Source {
     // Makes cell k the byte b, and answers the byte that stood there. Past the end it refuses,
     // and `set` then leaves the list as it is.
     fn write(&mut self, k: usize, b: u8) -> Result<u8, ReadFault>
-        ensures whole { NoneLost (cells self.old) }
-        ensures answer { Answers (cells self.old) k result }
-        ensures after { cells self.new ≡ slice_set (cells self.old) k (Byte b) }
+        ensures whole { NoneLost (Self.cells self.old) }
+        ensures answer { Answers (Self.cells self.old) k result }
+        ensures after { Self.cells self.new ≡ slice_set (Self.cells self.old) k (Byte b) }
         ensures spares { spares self.new ≡ spares self.old }
         ensures fixed { fixed self.new ≡ fixed self.old };
 }

@@ -5,16 +5,16 @@ use Rattle.std.proofs.lemmas.Result.{err_from_is_err_and}
 use Rattle.content.proofs.Bytes.{digit_read, digit_refused}
 use Rattle.content.proofs.digits.Goals as goal
 
-pub returns-in-err-b : goal.returns-in-err-b
-returns-in-err-b g c =
+pub returns-in_err-b : goal.returns-in_err-b
+returns-in_err-b g c =
     let cs = g.S.Source.cells c.args.source.now in
     let p = err_from_is_err_and c.from-residual.result c.from-residual.ensures.1 in
-    let e = digit_refused cs c.args.piece.now.place c.loop-i.i c.args.piece.now.width c.loop-i.n c.loop-i-test.true _ (sym c.in-err-b.ensures.answer) in
+    let e = digit_refused cs c.args.piece.now.place c.loop-i.i c.args.piece.now.width c.loop-i.n c.loop-i-test.true _ (sym c.in_err-b.ensures.answer) in
     rw (p.1, p.2) (sym e ∙ c.loop-i.invariant.0)
 
 pub loop-i-preserved : goal.loop-i-preserved
 loop-i-preserved g c =
-    let e = digit_read (g.S.Source.cells c.args.source.now) c.args.piece.now.place c.loop-i.i c.args.piece.now.width c.loop-i.n c.loop-i-test.true c.in-ok-b.b c.grown-n.result (sym c.in-ok-b.ensures.answer) c.grown-n.ensures in
+    let e = digit_read (g.S.Source.cells c.args.source.now) c.args.piece.now.place c.loop-i.i c.args.piece.now.width c.loop-i.n c.loop-i-test.true c.in_ok-b.b c.grown-n.result (sym c.in_ok-b.ensures.answer) c.grown-n.ensures in
     (sym e ∙ c.loop-i.invariant.0, omega (arith, c.grown-n.ensures))
 
 pub returns : goal.returns

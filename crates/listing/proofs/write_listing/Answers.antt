@@ -15,9 +15,9 @@ returns-in-Ok c =
     let cut-too = c.of-input.ensures.capture in
     let same = whole_is (length table) bs c.of-input.result.sheet.now c.of-input.result.capture.now cut cut-too (Ok c.in-Ok.field-0) c.in-Ok.ensures.result in
     record {
-      value = subst (λ t. Appended c.args.out.now t c.write-message.result c.write-message.new.out) same c.write-message.ensures.value;
-      rows = c.read-sheet.ensures.rows ∙ ap (λ t. laid (read_of t (length table)).rows table) cut;
-      lender = c.write-message.ensures.lender;
+      value = subst (λ t. Appended c.args.out.now t c.write_message.result c.write_message.new.out) same c.write_message.ensures.value;
+      rows = c.read_sheet.ensures.rows ∙ ap (λ t. laid (read_of t (length table)).rows table) cut;
+      lender = c.write_message.ensures.lender;
       fits = subst (λ t. length t ≤ 262144) same (message_long bs c.of-input.result.capture.now cut-too);
     }
 
@@ -31,9 +31,9 @@ returns-in-Err c =
     let told = ap (λ t. whole_text (lines_of (fault t))) c.told.ensures ∙ same in
     let wrong = c.in-Err.ensures.reads.refuses e refl in
     record {
-      value = subst (λ t. Appended c.args.out.now t c.write-all.result c.write-all.new.line) told c.write-all.ensures.value;
-      rows = c.read-sheet.ensures.rows ∙ ap (λ t. laid (read_of t (length table)).rows table) cut;
-      lender = c.write-all.ensures.lender;
+      value = subst (λ t. Appended c.args.out.now t c.write_all.result c.write_all.new.line) told c.write_all.ensures.value;
+      rows = c.read_sheet.ensures.rows ∙ ap (λ t. laid (read_of t (length table)).rows table) cut;
+      lender = c.write_all.ensures.lender;
       fits = subst (λ t. length t ≤ 262144) same
           (sheet_long e (let h = wrong_line _ _ wrong.0 e.reason e.line wrong.1.1 in omega arith));
     }

@@ -9,4 +9,4 @@ use Rattle.evaluate.proofs.reach.into_field.Goals as goal
 pub returns-in-None : goal.returns-in-None
 returns-in-None c =
     let n = name_in c.args.text.now c.args.name in
-    sym (push_unfit (reach_of c.args.reach) (field n) (no_name n (subst (λ m. ProperName m → ⊥) c.name-of.ensures c.in-None.ensures)))
+    sym (push_unfit (reach_of c.args.reach) (field n) (no_name n (subst (λ m. ProperName m → ⊥) c.name_of.ensures c.in-None.ensures)))

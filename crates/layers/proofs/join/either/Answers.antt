@@ -9,4 +9,4 @@ returns-in-Ok c cs ds at j w one two = first_answers cs ds c.args.k at c.in-Ok.b
 
 pub returns-in-Err : goal.returns-in-Err
 returns-in-Err c cs ds at j w one two =
-    c.passed-up.ensures.layer ds _ at (j.behind (whole_err_past cs c.args.k c.args.k _ w (sym c.in-Err.is ∙ one.answer))) two
+    c.passed_up.ensures.layer ds _ at (j.behind (whole_err_past cs c.args.k c.args.k _ w (sym c.in-Err.is ∙ one.answer))) two

@@ -4,8 +4,8 @@ use Rattle.line.proofs.Numerals.{writes_decimal}
 use Rattle.line.proofs.Appends.{memory_after, text_after}
 use Rattle.line.proofs.Line.push_number.Goals as goal
 
-pub put-digits-requires : goal.put-digits-requires
-put-digits-requires c = record { digits = c.count-digits-count.ensures; within = omega arith }
+pub put_digits-requires : goal.put_digits-requires
+put_digits-requires c = record { digits = c.count_digits-count.ensures; within = omega arith }
 
 pub returns-then-count-free : goal.returns-then-count-free
 returns-then-count-free c =
@@ -21,10 +21,10 @@ pub returns : goal.returns
 returns c =
     let ps = c.args.self.now.places.now in
     let ds = decimal c.args.n in
-    let k = c.count-digits-count.ensures in
+    let k = c.count_digits-count.ensures in
     let u = c.len-len.result in
-    let written = c.put-digits.ensures ∙ ap (λ n. take u ps ++ (ds ++ drop (u + n) ps)) k in
-    let t = ap (λ n. take (u + n) c.put-digits.new.places) k
+    let written = c.put_digits.ensures ∙ ap (λ n. take u ps ++ (ds ++ drop (u + n) ps)) k in
+    let t = ap (λ n. take (u + n) c.put_digits.new.places) k
     ∙ text_after ps ds _ c.args.self.now.len u c.len-len.ensures.value written in
     let m = memory_after ps ds _ c.args.self.now.len u c.len-len.ensures.value written in
     record {

@@ -3,8 +3,8 @@ use Rattle.list.proofs.Fronts.{nth_front_read, nth_take_past}
 use Rattle.std.proofs.lemmas.Option.{slice_get_past}
 use Rattle.list.proofs.places.entry_at.Goals as goal
 
-pub returns-then-i-in-use : goal.returns-then-i-in-use
-returns-then-i-in-use g c = search (rules, nth_front_read)
+pub returns-then-i-in_use : goal.returns-then-i-in_use
+returns-then-i-in_use g c = search (rules, nth_front_read)
 
-pub returns-else-i-in-use : goal.returns-else-i-in-use
-returns-else-i-in-use g c = search (rules, slice_get_past)
+pub returns-else-i-in_use : goal.returns-else-i-in_use
+returns-else-i-in_use g c = search (rules, slice_get_past)

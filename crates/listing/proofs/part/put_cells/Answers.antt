@@ -17,12 +17,12 @@ pub loop-k-preserved : goal.loop-k-preserved
 loop-k-preserved g c =
     let cs = g.S.Source.cells c.args.source.now in
     let l = c.args.line.now in
-    let n = c.put-cell.new.line in
+    let n = c.put_cell.new.line in
     let k = c.loop-k.k in
     let before = flat_map cell_text (take (k - c.args.from) (drop c.args.from cs)) in
     subst (λ bs. Fills l bs n)
     (ap (λ r. before ++ answer_text r) c.read.ensures.answer ∙ cell_more cs c.args.from k c.loop-k.auto.k (omega arith))
-    (fills_more l before c.loop-k.line (answer_text c.read.result) n c.loop-k.invariant c.put-cell.ensures)
+    (fills_more l before c.loop-k.line (answer_text c.read.result) n c.loop-k.invariant c.put_cell.ensures)
 
 pub returns : goal.returns
 returns g c =

@@ -10,10 +10,10 @@ returns g c =
     let place = behind_comma (decimal c.args.place) in
     let width = behind_comma (decimal c.args.width) in
     let part = behind_comma (bytes_text (part_of (g.S.Source.cells c.args.source.now) c.args.place c.args.width)) in
-    let a = c.put-text.new.line in
-    let b = c.put-number.new.line in
-    let d = c.put-number-2.new.line in
-    let e = c.put-part.new.line in
-    fills_more c.args.line.now word a (place ++ (width ++ part)) e c.put-text.ensures
-    (fills_more a place b (width ++ part) e c.put-number.ensures
-    (fills_more b width d part e c.put-number-2.ensures c.put-part.ensures))
+    let a = c.put_text.new.line in
+    let b = c.put_number.new.line in
+    let d = c.put_number-2.new.line in
+    let e = c.put_part.new.line in
+    fills_more c.args.line.now word a (place ++ (width ++ part)) e c.put_text.ensures
+    (fills_more a place b (width ++ part) e c.put_number.ensures
+    (fills_more b width d part e c.put_number-2.ensures c.put_part.ensures))

@@ -5,8 +5,8 @@ use Rattle.opened.specs.Opens.{fronts}
 use Rattle.opened.proofs.Climbs.{child_fronts, child_below}
 use Rattle.opened.proofs.Opened.child.Goals as goal
 
-pub invariant-of-result : goal.invariant-of-result
-invariant-of-result c =
+pub invariant_of-result : goal.invariant_of-result
+invariant_of-result c =
     let s = c.args.self in
     (s.few, (s.full, (subst (λ P. below (length P) s.lens s.count ≡ true) (sym c.in-Some.ensures) (child_below (path_of s.path) (step_of c.args.step) s.lens s.count s.inside), tt)))
 

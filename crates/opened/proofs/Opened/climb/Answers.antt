@@ -9,4 +9,4 @@ returns-then-k-self c = sym (climbed_past (path_of c.args.self.now.path) c.args.
 pub returns : goal.returns
 returns c =
     ap Ok c.front.ensures
-    ∙ sym (climbed_at (path_of c.args.self.now.path) c.args.self.now.lens c.args.self.now.count c.args.k c.place-of.result c.if-k-self.false c.place-of.ensures)
+    ∙ sym (climbed_at (path_of c.args.self.now.path) c.args.self.now.lens c.args.self.now.count c.args.k c.place_of.result c.if-k-self.false c.place_of.ensures)

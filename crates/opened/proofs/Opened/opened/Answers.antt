@@ -5,14 +5,14 @@ use Rattle.opened.specs.Opens.{fronts}
 use Rattle.opened.proofs.Climbs.{fronts_open, open_below}
 use Rattle.opened.proofs.Opened.opened.Goals as goal
 
-pub invariant-of-result : goal.invariant-of-result
-invariant-of-result c =
+pub invariant_of-result : goal.invariant_of-result
+invariant_of-result c =
     let s = c.args.self in
     let P = path_of s.path in
     let n = s.count in
     let short : n < length s.lens = omega (arith, s.full) in
     let more : n + 1 ≡ suc n = omega arith in
-    let w = c.with-len-lens.ensures in (
+    let w = c.with_len-lens.ensures in (
       omega arith,
       (
         ap length w ∙ length-set s.lens n c.len.result ∙ s.full,
@@ -31,7 +31,7 @@ returns c =
     let n = s.count in
     let short : n < length s.lens = omega (arith, s.full) in
     let more : n + 1 ≡ suc n = omega arith in
-    let w = c.with-len-lens.ensures in (
+    let w = c.with_len-lens.ensures in (
       refl,
       ap (λ ls. fronts P ls (n + 1)) w ∙ ap (λ k. fronts P (set s.lens n k) (n + 1)) c.len.ensures.value ∙ ap (λ m. fronts P (set s.lens n (length P)) m) more
           ∙ fronts_open P s.lens n short,

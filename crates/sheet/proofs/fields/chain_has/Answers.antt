@@ -9,8 +9,8 @@ use Rattle.sheet.proofs.fields.chain_has.Goals.{After-eq}
 
 tested : (c : After-eq) → c.eq.result ≡ bytes_eq c.args.name.now (name_in c.args.text.now c.in-Some.field.name)
 tested c =
-    same_from_decides _ _ (slice_eq-Decides c.args.name.now c.name-of.result.now _ c.eq.ensures) (bytes_eq-Decides c.args.name.now c.name-of.result.now)
-    ∙ ap (bytes_eq c.args.name.now) c.name-of.ensures
+    same_from_decides _ _ (slice_eq-Decides c.args.name.now c.name_of.result.now _ c.eq.ensures) (bytes_eq-Decides c.args.name.now c.name_of.result.now)
+    ∙ ap (bytes_eq c.args.name.now) c.name_of.ensures
 
 -- one field more
 turn : (c : After-eq) → (c.eq.result || member c.args.name.now (chain_names (c.loop-left.left - 1) c.args.text.now c.args.rows.now c.in-Some.field.two)) ≡ member c.args.name.now (chain_names c.args.most c.args.text.now c.args.rows.now c.args.first)
@@ -19,12 +19,12 @@ turn c =
     let rest = chain_names (c.loop-left.left - 1) c.args.text.now c.args.rows.now c.in-Some.field.two in
     let some : 0 < c.loop-left.left = omega arith in
     ap (λ t. t || member name rest) (tested c)
-    ∙ sym (ap (member name) (chain_some c.args.text.now c.args.rows.now c.loop-left.column c.loop-left.left some c.in-Some.field (sym c.field-at.ensures ∙ c.in-Some.is)))
+    ∙ sym (ap (member name) (chain_some c.args.text.now c.args.rows.now c.loop-left.column c.loop-left.left some c.in-Some.field (sym c.field_at.ensures ∙ c.in-Some.is)))
     ∙ c.loop-left.invariant
 
-pub returns-in-default : goal.returns-in-default
-returns-in-default c =
-    sym (ap (member c.args.name.now) (chain_none c.args.text.now c.args.rows.now c.loop-left.column c.loop-left.left (omega arith) (sym c.field-at.ensures ∙ c.in-default.is)))
+pub returns-in_default : goal.returns-in_default
+returns-in_default c =
+    sym (ap (member c.args.name.now) (chain_none c.args.text.now c.args.rows.now c.loop-left.column c.loop-left.left (omega arith) (sym c.field_at.ensures ∙ c.in_default.is)))
     ∙ c.loop-left.invariant
 
 pub returns-then-eq : goal.returns-then-eq

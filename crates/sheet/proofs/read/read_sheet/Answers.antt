@@ -6,11 +6,11 @@ use Rattle.sheet.proofs.read.read_sheet.Goals as goal
 
 pub returns : goal.returns
 returns c =
-    let e = c.read-checked.ensures in
+    let e = c.read_checked.ensures in
     let text = c.args.text.now in
     let table = c.args.table.now in
-    let left = c.read-checked.new.table in
-    let r = c.read-checked.result in
+    let left = c.read_checked.new.table in
+    let r = c.read_checked.result in
     record {
       told = ap (as_told sheet_told) e.result;
       result = e.result;

@@ -11,6 +11,6 @@ returns c =
     let whole : take (length text - at) (drop at text) ≡ drop at text = take_rest text at in
     let long : at + length (take (length text - at) (drop at text)) ≡ length text = omega (arith, ap length whole, length-drop at text) in
     record {
-      is = c.front-part.ensures.is ∙ ap (λ l. part_from l at c.args.stop) whole;
-      within = subst (λ n. IfSome c.front-part.result (λ p. p.next ≤ n)) long c.front-part.ensures.within;
+      is = c.front_part.ensures.is ∙ ap (λ l. part_from l at c.args.stop) whole;
+      within = subst (λ n. IfSome c.front_part.result (λ p. p.next ≤ n)) long c.front_part.ensures.within;
     }

@@ -6,6 +6,6 @@ use Rattle.sheet_text.proofs.rows.has_header.Goals as goal
 
 pub returns : goal.returns
 returns c = record {
-  is = same_from_decides _ _ (slice_eq-Decides header (take 28 c.args.text.now) _ c.starts-with.ensures.value) (bytes_eq-Decides header (take 28 c.args.text.now));
-  within = c.starts-with.ensures.bound;
+  is = same_from_decides _ _ (slice_eq-Decides header (take 28 c.args.text.now) _ c.starts_with.ensures.value) (bytes_eq-Decides header (take 28 c.args.text.now));
+  within = c.starts_with.ensures.bound;
 }

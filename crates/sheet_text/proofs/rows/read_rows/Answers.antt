@@ -6,14 +6,14 @@ use Rattle.sheet_text.proofs.rows.read_rows.Goals as goal
 
 pub returns : goal.returns
 returns c =
-    let e = c.read-text.ensures in
+    let e = c.read_text.ensures in
     let text = c.args.text.now in
     let table = c.args.table.now in
-    let left = c.read-text.new.table in
+    let left = c.read_text.new.table in
     record {
       told = ap (as_told sheet_told) e.result;
       result = e.result;
       rows = e.rows;
       within = e.within;
-      reads = reads_so text table left e.rows c.read-text.result e.result;
+      reads = reads_so text table left e.rows c.read_text.result e.result;
     }

@@ -8,7 +8,7 @@ returns-then-not-follows c =
     let xs = c.args.bytes.now in
     let i = c.loop-b.b-index in
     let step : name_bytes (drop i xs) ≡ (follows (class_of (get_or xs i 0)) && name_bytes (drop (i + 1) xs)) = at_drop_more name_bytes xs i 0 (omega arith) in
-    let off : follows (class_of (get_or xs i 0)) ≡ false = ap follows (sym c.name-byte.ensures) ∙ sym c.follows.ensures ∙ c.if-not-follows.true in
+    let off : follows (class_of (get_or xs i 0)) ≡ false = ap follows (sym c.name_byte.ensures) ∙ sym c.follows.ensures ∙ c.if-not-follows.true in
     sym (ap (λ t. t && name_bytes (drop (i + 1) xs)) off) ∙ sym step ∙ c.loop-b.invariant
 
 pub loop-b-preserved : goal.loop-b-preserved
@@ -16,7 +16,7 @@ loop-b-preserved c =
     let xs = c.args.bytes.now in
     let i = c.loop-b.b-index in
     let step : name_bytes (drop i xs) ≡ (follows (class_of (get_or xs i 0)) && name_bytes (drop (i + 1) xs)) = at_drop_more name_bytes xs i 0 (omega arith) in
-    let on : follows (class_of (get_or xs i 0)) ≡ true = ap follows (sym c.name-byte.ensures) ∙ sym c.follows.ensures ∙ c.if-not-follows.false in
+    let on : follows (class_of (get_or xs i 0)) ≡ true = ap follows (sym c.name_byte.ensures) ∙ sym c.follows.ensures ∙ c.if-not-follows.false in
     sym (ap (λ t. t && name_bytes (drop (i + 1) xs)) on) ∙ sym step ∙ c.loop-b.invariant
 
 pub returns : goal.returns

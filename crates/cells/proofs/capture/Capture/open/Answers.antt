@@ -6,5 +6,5 @@ use Rattle.cells.proofs.capture.Capture.open.Goals as goal
 pub returns : goal.returns
 returns c =
     let t = c.args.text.now in
-    let e = c.by-fault.ensures ∙ ap (λ o. opened_by o (capture_cells t)) c.first-bad.ensures in
-    record { told = e; faults = opens_by t c.by-fault.result e }
+    let e = c.by_fault.ensures ∙ ap (λ o. opened_by o (capture_cells t)) c.first_bad.ensures in
+    record { told = e; faults = opens_by t c.by_fault.result e }

@@ -4,10 +4,10 @@ use Rattle.cells.proofs.Captures.{pair_cell, few_pairs}
 use Rattle.cells.proofs.Tells.{answers}
 use Rattle.cells.proofs.capture.CaptureSource.read.Goals as goal
 
-pub pair-answer-requires : goal.pair-answer-requires
-pair-answer-requires c = few_pairs c.args.self.now.text.now c.args.k c.pair-at.result c.pair-at.ensures.past
+pub pair_answer-requires : goal.pair_answer-requires
+pair_answer-requires c = few_pairs c.args.self.now.text.now c.args.k c.pair_at.result c.pair_at.ensures.past
 
 pub returns : goal.returns
 returns c =
-    let at = c.pair-at.ensures in
-    answers (c.pair-answer.ensures ∙ ap (answered c.args.k) (sym (pair_cell c.args.self.now.text.now c.args.k c.pair-at.result at.within at.past)))
+    let at = c.pair_at.ensures in
+    answers (c.pair_answer.ensures ∙ ap (answered c.args.k) (sym (pair_cell c.args.self.now.text.now c.args.k c.pair_at.result at.within at.past)))
