@@ -1,14 +1,14 @@
 -- What reads and writes do to the cells that a source means.
-use Rattle.std.proofs.Common.{◌≡◌, ℕ, zero, suc, ◌+◌, ◌-◌, ◌<◌, ◌≤◌, min, List, [], ◌∷◌, ◌++◌, map, length, get_or, take, drop, set, Some, None, Ok, Err, Option, sym, refl, ap, ◌∙◌, ⊎_elim, suc-le-suc, zero-le, arith}
+use Rattle.std.proofs.Common.{◌≡◌, ℕ, zero, suc, ◌<◌, ◌≤◌, min, List, [], ◌∷◌, map, length, get_or, take, set, Some, None, Ok, Err, Option, sym, ap, ◌∙◌, ⊎_elim, suc-le-suc, zero-le, arith}
 use Rattle.std.proofs.lemmas.Bool.{cases_lt}
 use Rattle.cells.specs.declared.cell.ReadFault.{ReadFault}
 use Rattle.std.specs.List.{slice_get}
 use Rattle.std.specs.Option.{option_map}
-use Rattle.std.proofs.lemmas.List.{length-map, length-take, map-set, set_past, drop-set-lt}
+use Rattle.std.proofs.lemmas.List.{map-set, set_past, drop-set-lt}
 use Rattle.std.proofs.lemmas.Option.{slice_get_past, slice_get-get_or}
 use Rattle.cells.specs.declared.cell.Cell.{Cell}
 use Rattle.cells.specs.declared.cell.Cell.TheVariants.{Byte, Lost}
-use Rattle.cells.specs.declared.cell.ReadFault.TheVariants.{PastEnd, LostCell}
+use Rattle.cells.specs.declared.cell.ReadFault.TheVariants.{PastEnd}
 use Rattle.cells.specs.Cells.{read_at, answered, NoneLost, byte_cells, byte_spares}
 use Rattle.cells.specs.Laws.{bytes_length}
 use Rattle.cells.proofs.Nths.{nth_map, nth_take, take_set_in}

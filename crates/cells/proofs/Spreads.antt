@@ -5,7 +5,6 @@ use Rattle.std.specs.Option.{option_map}
 use Rattle.std.proofs.lemmas.List.{get_or-take, drop-set-lt, set_past}
 use Rattle.std.proofs.lemmas.Option.{slice_get_past}
 use Rattle.std.proofs.lemmas.Bool.{cases_lt}
-use Rattle.cells.specs.declared.cell.Cell.{Cell}
 use Rattle.cells.specs.declared.cell.Cell.TheVariants.{Byte}
 use Rattle.cells.specs.Cells.{NoneLost, high, low, half_of, with_half, spread, word_cells, word_spares}
 use Rattle.cells.specs.Laws.{words_length}

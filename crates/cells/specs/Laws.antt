@@ -1,9 +1,8 @@
 -- The messages of the bottoms keep the law of a message.
-use Rattle.std.specs.Prelude.{◌≡◌, ℕ, zero, suc, ◌+◌, ◌-◌, ◌*◌, ◌/◌, ◌<◌, ◌≤◌, min, List, [], ◌∷◌, map, length, take, drop, refl}
-use Rattle.std.proofs.Common.{sym, ap, ◌∙◌, arith, length-take}
+use Rattle.std.specs.Prelude.{◌≡◌, ℕ, zero, suc, ◌+◌, ◌*◌, ◌/◌, ◌≤◌, min, List, [], ◌∷◌, map, length, take, refl}
+use Rattle.std.proofs.Common.{ap, ◌∙◌, arith, length-take}
 use Rattle.std.proofs.lemmas.List.{length-map}
-use Rattle.cells.specs.declared.cell.Cell.{Cell}
-use Rattle.cells.specs.declared.cell.Cell.TheVariants.{Byte, Lost}
+use Rattle.cells.specs.declared.cell.Cell.TheVariants.{Byte}
 use Rattle.cells.specs.Captured.{cell_of, pair_cells, capture_cells}
 use Rattle.cells.specs.Hex.{pair_of}
 use Rattle.cells.specs.declared.hex.Pair.{Pair}

@@ -8,7 +8,7 @@ use Rattle.content.proofs.digits.Goals as goal
 pub returns-in_err-b : goal.returns-in_err-b
 returns-in_err-b g c =
     let cs = g.S.Source.cells c.args.source.now in
-    let p = err_from_is_err_and c.from-residual.result c.from-residual.ensures.1 in
+    let p = err_from_is_err_and c.from_residual.result c.from_residual.ensures.1 in
     let e = digit_refused cs c.args.piece.now.place c.loop-i.i c.args.piece.now.width c.loop-i.n c.loop-i-test.true _ (sym c.in_err-b.ensures.answer) in
     rw (p.1, p.2) (sym e ∙ c.loop-i.invariant.0)
 

@@ -1,4 +1,4 @@
-use Rattle.std.proofs.Common.{◌≡◌, ◌+◌, ◌<◌, ◌++◌, length, take, drop, decimal, sym, refl, ap, ◌∙◌, arith, rules}
+use Rattle.std.proofs.Common.{◌+◌, ◌<◌, ◌++◌, length, take, drop, decimal, refl, ap, ◌∙◌, arith}
 use Rattle.line.specs.Text.{used, room}
 use Rattle.line.proofs.Numerals.{writes_decimal}
 use Rattle.line.proofs.Appends.{memory_after, text_after}

@@ -1,4 +1,4 @@
-use Rattle.std.proofs.Common.{◌≡◌, ◌+◌, ◌^◌, ◌<◌, ◌≤◌, length, decimal}
+use Rattle.std.proofs.Common.{◌≡◌, ◌+◌, ◌^◌, ◌<◌, length, decimal}
 use Rattle.line.proofs.digits.count_digits.Given as goal
 
 abbrev pub invariant-loop-rest : goal.invariant-loop-rest

@@ -1,7 +1,7 @@
 use Rattle.std.proofs.Common.{◌≡◌, ◌-◌, ◌<◌, ◌||◌, sym, ap, ◌∙◌, arith}
 use Rattle.std.specs.Str.{bytes_eq}
 use Rattle.std.proofs.lemmas.Slice.Eq.{slice_eq-Decides, bytes_eq-Decides}
-use Rattle.std.proofs.lemmas.Bool.Decides.{same_from_decides}
+use Rattle.std.proofs.lemmas.Bool.Decides.{same_from_decides, Decides-eqb}
 use Rattle.sheet.specs.Fields.{member, chain_names, name_in}
 use Rattle.sheet.proofs.Chains.{chain_end, chain_none, chain_some}
 use Rattle.sheet.proofs.fields.chain_has.Goals as goal
@@ -9,7 +9,7 @@ use Rattle.sheet.proofs.fields.chain_has.Goals.{After-eq}
 
 tested : (c : After-eq) → c.eq.result ≡ bytes_eq c.args.name.now (name_in c.args.text.now c.in-Some.field.name)
 tested c =
-    same_from_decides _ _ (slice_eq-Decides c.args.name.now c.name_of.result.now _ c.eq.ensures) (bytes_eq-Decides c.args.name.now c.name_of.result.now)
+    same_from_decides _ _ (slice_eq-Decides Decides-eqb c.args.name.now c.name_of.result.now _ c.eq.ensures) (bytes_eq-Decides c.args.name.now c.name_of.result.now)
     ∙ ap (bytes_eq c.args.name.now) c.name_of.ensures
 
 -- one field more

@@ -22,7 +22,7 @@ pub returns-in_err-check_rows : goal.returns-in_err-check_rows
 returns-in_err-check_rows c =
     let w = (goal.at.returns-in_err-check_rows c).After-check_rows in
     let f = c.in_err-check_rows.field-0.0 in
-    let p = err_from_is_err_and c.from-residual-in_err-check_rows.result c.from-residual-in_err-check_rows.ensures.1 in
+    let p = err_from_is_err_and c.from_residual-in_err-check_rows.result c.from_residual-in_err-check_rows.ensures.1 in
     let is = p.1 ∙ ap Err p.2 ∙ sym (judged_as w (Some f) (denied _ f (sym c.check_rows.ensures ∙ c.in_err-check_rows.was))) in
     record { result = is; rows = c.read_rows.ensures.rows }
 

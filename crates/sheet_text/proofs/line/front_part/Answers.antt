@@ -18,7 +18,7 @@ pub returns-in_err-token : goal.returns-in_err-token
 returns-in_err-token c =
     let w = (goal.at.returns-in_err-token c).After-read_token in
     let rest = c.args.rest.now in
-    let none = c.from-residual.ensures in
+    let none = c.from_residual.ensures in
     record {
       is = ap (option_map viewed) none
           ∙ sym (part_ended c.part_len-n.result rest c.args.at c.args.stop None (ended w) (read w ∙ ap (option_map meaning) c.in_err-token.was))

@@ -10,7 +10,7 @@ returns-in_err-digit c =
     let xs = c.args.bytes.now in
     let i = c.loop-b.b-index in
     let off : is_digit (get_or xs i 0) ≡ false = chosen_none _ _ (sym c.digit_of.ensures ∙ c.in_err-digit.was) in
-    c.from-residual.ensures ∙ sym (digits_stop c.loop-b.n (get_or xs i 0) (drop (i + 1) xs) off)
+    c.from_residual.ensures ∙ sym (digits_stop c.loop-b.n (get_or xs i 0) (drop (i + 1) xs) off)
     ∙ sym (at_drop_more (digits_after c.loop-b.n) xs i 0 (omega arith)) ∙ c.loop-b.invariant.1
 
 pub returns-then-n-digit : goal.returns-then-n-digit

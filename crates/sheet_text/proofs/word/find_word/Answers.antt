@@ -2,7 +2,7 @@ use Rattle.std.proofs.Common.{◌≡◌, ◌+◌, true, false, cond, get_or, dro
 use Rattle.std.proofs.lemmas.List.{at_drop_more, at_drop_all}
 use Rattle.std.specs.Str.{bytes_eq}
 use Rattle.std.proofs.lemmas.Slice.Eq.{slice_eq-Decides, bytes_eq-Decides}
-use Rattle.std.proofs.lemmas.Bool.Decides.{same_from_decides}
+use Rattle.std.proofs.lemmas.Bool.Decides.{same_from_decides, Decides-eqb}
 use Rattle.sheet_text.specs.Table.{spelled, spelling}
 use Rattle.sheet_text.specs.declared.word.Word.TheVariants as word
 use Rattle.sheet_text.specs.declared.word.TypeWord.TheVariants as type
@@ -12,7 +12,7 @@ use Rattle.sheet_text.proofs.word.find_word.Goals.{After-eq}
 -- what the comparison answered, in the table's words
 tested : (c : After-eq) → c.eq.result ≡ bytes_eq (spelling (get_or c.args.words.now c.loop-w.w-index (word.Type type.Void))) c.args.bytes.now
 tested c =
-    same_from_decides _ _ (slice_eq-Decides _ _ _ c.eq.ensures) (bytes_eq-Decides _ _)
+    same_from_decides _ _ (slice_eq-Decides Decides-eqb c.text.result.now c.args.bytes.now _ c.eq.ensures) (bytes_eq-Decides _ _)
     ∙ ap (λ bs. bytes_eq bs c.args.bytes.now) c.text.ensures
 
 pub returns-then-eq : goal.returns-then-eq
