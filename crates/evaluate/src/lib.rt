@@ -27,8 +27,8 @@ pub fn number<S: Source>(
     records: &Opened,
     row: usize,
 ) -> Result<u64, EvalFault>
-    ensures told { as_told eval_told result ≡ as_told eval_told (number_value (cells source.now) sheet.now pieces.old records.now row) }
-    ensures value { result ≡ number_value (cells source.now) sheet.now pieces.old records.now row }
+    ensures told { as_told eval_told result ≡ as_told eval_told (number_value (S.Source.cells source.now) sheet.now pieces.old records.now row) }
+    ensures value { result ≡ number_value (S.Source.cells source.now) sheet.now pieces.old records.now row }
     ensures same { pieces.new ≡ pieces.old }
 {
     numbers::number(sheet, source, pieces, records, row)
@@ -42,8 +42,8 @@ pub fn truth<S: Source>(
     records: &Opened,
     row: usize,
 ) -> Result<bool, EvalFault>
-    ensures told { as_told eval_told result ≡ as_told eval_told (truth_value (cells source.now) sheet.now pieces.old records.now row) }
-    ensures value { result ≡ truth_value (cells source.now) sheet.now pieces.old records.now row }
+    ensures told { as_told eval_told result ≡ as_told eval_told (truth_value (S.Source.cells source.now) sheet.now pieces.old records.now row) }
+    ensures value { result ≡ truth_value (S.Source.cells source.now) sheet.now pieces.old records.now row }
     ensures same { pieces.new ≡ pieces.old }
 {
     truths::truth(sheet, source, pieces, records, row)
@@ -57,8 +57,8 @@ pub fn location<S: Source>(
     records: &Opened,
     row: usize,
 ) -> Result<Piece, EvalFault>
-    ensures told { as_told eval_told (as_piece result) ≡ as_told eval_told (place_value (cells source.now) sheet.now pieces.old records.now row) }
-    ensures value { as_piece result ≡ place_value (cells source.now) sheet.now pieces.old records.now row }
+    ensures told { as_told eval_told (as_piece result) ≡ as_told eval_told (place_value (S.Source.cells source.now) sheet.now pieces.old records.now row) }
+    ensures value { as_piece result ≡ place_value (S.Source.cells source.now) sheet.now pieces.old records.now row }
     ensures same { pieces.new ≡ pieces.old }
 {
     numbers::location(sheet, source, pieces, records, row)

@@ -27,7 +27,7 @@ pub(crate) fn number<S: Source>(
     records: &Opened,
     row: usize,
 ) -> Result<u64, EvalFault>
-    ensures value { result ≡ number_value (cells source.now) sheet.now pieces.old records.now row }
+    ensures value { result ≡ number_value (S.Source.cells source.now) sheet.now pieces.old records.now row }
     ensures same { pieces.new ≡ pieces.old }
 {
     number_by(sheet, source, pieces, records, row, row_at(sheet, row))
@@ -44,7 +44,7 @@ fn number_by<S: Source>(
     r: Row,
 ) -> Result<u64, EvalFault>
     requires { LeadsOn (rows_of sheet.now) row r }
-    ensures value { result ≡ number_of_row (cells source.now) sheet.now pieces.old records.now r }
+    ensures value { result ≡ number_of_row (S.Source.cells source.now) sheet.now pieces.old records.now r }
     ensures same { pieces.new ≡ pieces.old }
 {
     let Word::Number(word) = r.word else {
@@ -77,7 +77,7 @@ pub(crate) fn pair<S: Source>(
     one: usize,
     two: usize,
 ) -> Result<(u64, u64), EvalFault>
-    ensures value { result ≡ pair_value (cells source.now) sheet.now pieces.old records.now one two }
+    ensures value { result ≡ pair_value (S.Source.cells source.now) sheet.now pieces.old records.now one two }
     ensures same { pieces.new ≡ pieces.old }
 {
     let a = number(sheet, source, pieces, records, one)?;
@@ -94,7 +94,7 @@ pub(crate) fn location<S: Source>(
     records: &Opened,
     row: usize,
 ) -> Result<Piece, EvalFault>
-    ensures value { as_piece result ≡ place_value (cells source.now) sheet.now pieces.old records.now row }
+    ensures value { as_piece result ≡ place_value (S.Source.cells source.now) sheet.now pieces.old records.now row }
     ensures same { pieces.new ≡ pieces.old }
 {
     let r = row_at(sheet, row);
@@ -121,7 +121,7 @@ fn steps<S: Source>(
     row: Option<usize>,
     reach: Option<Path>,
 ) -> Result<Option<Path>, EvalFault>
-    ensures value { as_reach result ≡ reach_value (cells source.now) sheet.now pieces.old records.now row (reach_of reach) }
+    ensures value { as_reach result ≡ reach_value (S.Source.cells source.now) sheet.now pieces.old records.now row (reach_of reach) }
     ensures same { pieces.new ≡ pieces.old }
 {
     let Some(at) = row else {
@@ -142,7 +142,7 @@ fn steps_by<S: Source>(
     reach: Option<Path>,
 ) -> Result<Option<Path>, EvalFault>
     requires { LeadsOn (rows_of sheet.now) row r }
-    ensures value { as_reach result ≡ reach_of_row (cells source.now) sheet.now pieces.old records.now r (reach_of reach) }
+    ensures value { as_reach result ≡ reach_of_row (S.Source.cells source.now) sheet.now pieces.old records.now r (reach_of reach) }
     ensures same { pieces.new ≡ pieces.old }
 {
     let Word::Step(word) = r.word else {

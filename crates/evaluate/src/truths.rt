@@ -21,7 +21,7 @@ fn flag<S: Source>(
     source: &S,
     piece: &Piece,
 ) -> Result<bool, EvalFault>
-    ensures { result ≡ flag_value (cells source.now) sheet.now piece.now }
+    ensures { result ≡ flag_value (S.Source.cells source.now) sheet.now piece.now }
 {
     if !is_bool(sheet, piece.row as usize) {
         return Err(EvalFault::NoValue);
@@ -38,7 +38,7 @@ pub(crate) fn truth<S: Source>(
     records: &Opened,
     row: usize,
 ) -> Result<bool, EvalFault>
-    ensures value { result ≡ truth_value (cells source.now) sheet.now pieces.old records.now row }
+    ensures value { result ≡ truth_value (S.Source.cells source.now) sheet.now pieces.old records.now row }
     ensures same { pieces.new ≡ pieces.old }
 {
     truth_by(sheet, source, pieces, records, row, row_at(sheet, row))
@@ -55,7 +55,7 @@ fn truth_by<S: Source>(
     r: Row,
 ) -> Result<bool, EvalFault>
     requires { LeadsOn (rows_of sheet.now) row r }
-    ensures value { result ≡ truth_of_row (cells source.now) sheet.now pieces.old records.now r }
+    ensures value { result ≡ truth_of_row (S.Source.cells source.now) sheet.now pieces.old records.now r }
     ensures same { pieces.new ≡ pieces.old }
 {
     let Word::Truth(word) = r.word else {
@@ -101,7 +101,7 @@ fn truths<S: Source>(
     one: usize,
     two: usize,
 ) -> Result<(bool, bool), EvalFault>
-    ensures value { result ≡ truths_value (cells source.now) sheet.now pieces.old records.now one two }
+    ensures value { result ≡ truths_value (S.Source.cells source.now) sheet.now pieces.old records.now one two }
     ensures same { pieces.new ≡ pieces.old }
 {
     let a = truth(sheet, source, pieces, records, one)?;

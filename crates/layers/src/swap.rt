@@ -21,7 +21,7 @@ impl<S: Source> Swap<S> {
 
     // The place below of cell k, or one past every end.
     fn place(&self, k: usize) -> usize
-        ensures { Stands swapped (cells self.now.below) k result }
+        ensures { Stands swapped (S.Source.cells self.now.below) k result }
     {
         partner(self.below.len(), k)
     }

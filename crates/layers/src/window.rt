@@ -28,8 +28,8 @@ impl<S: Source> Window<S> {
 
     // The place below of cell k, or one past every end.
     fn place(&self, k: usize) -> usize
-        ensures stands { Stands (windowed self.now.start self.now.count) (cells self.now.below) k result }
-        ensures spared { (b : ℕ) → window_spares self.now.start self.now.count (slice_set (cells self.now.below) result (Byte b)) ≡ window_spares self.now.start self.now.count (cells self.now.below) }
+        ensures stands { Stands (windowed self.now.start self.now.count) (S.Source.cells self.now.below) k result }
+        ensures spared { (b : ℕ) → window_spares self.now.start self.now.count (slice_set (S.Source.cells self.now.below) result (Byte b)) ≡ window_spares self.now.start self.now.count (S.Source.cells self.now.below) }
     {
         shifted(self.len(), self.start, k)
     }

@@ -14,9 +14,9 @@ returns-then-is_empty c =
     let rows = c.args.rows.now in
     sym (ap answer (no_rows (length rows) (column_fault text rows) (field_fault text rows) (depth_fault rows) (true-eqb (length rows) 0 c.if-is_empty.ensures)))
 
-pub returns-then-rows-gt-MAX-ROWS : goal.returns-then-rows-gt-MAX-ROWS
+pub returns-then-rows-gt-MAX_ROWS : goal.returns-then-rows-gt-MAX_ROWS
 unfolding verdict
-returns-then-rows-gt-MAX-ROWS c =
+returns-then-rows-gt-MAX_ROWS c =
     let text = c.args.text.now in
     let rows = c.args.rows.now in
     sym (ap answer (many_rows (length rows) (column_fault text rows) (field_fault text rows) (depth_fault rows) (omega arith)))
