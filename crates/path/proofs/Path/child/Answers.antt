@@ -4,8 +4,8 @@ use Rattle.path.specs.Meaning.{step_of}
 use Rattle.path.proofs.Laws.{path_length}
 use Rattle.path.proofs.Path.child.Goals as goal
 
-pub returns-then-len-ge-STEPS-MAX : goal.returns-then-len-ge-STEPS-MAX
-returns-then-len-ge-STEPS-MAX c = omega (arith, path_length c.args.self)
+pub returns-then-len-ge-STEPS_MAX : goal.returns-then-len-ge-STEPS_MAX
+returns-then-len-ge-STEPS_MAX c = omega (arith, path_length c.args.self)
 
 pub returns : goal.returns
 returns c =
