@@ -56,7 +56,7 @@ fn grown(n: u64, b: u8) -> u64
 
 // The bytes of a piece as an unsigned number, most significant first, held just above the limit.
 fn digits<S: Source>(source: &S, piece: &Piece) -> Result<u64, EvalFault>
-    ensures { result ≡ held_value (cells source.now) piece.now }
+    ensures { result ≡ held_value (S.Source.cells source.now) piece.now }
 {
     let mut n: u64 = 0;
     for i in 0..piece.width as usize {
@@ -68,7 +68,7 @@ fn digits<S: Source>(source: &S, piece: &Piece) -> Result<u64, EvalFault>
 
 // The number that the cells of a piece write, if it is not above the limit.
 pub fn value_of<S: Source>(source: &S, piece: &Piece) -> Result<u64, EvalFault>
-    ensures { result ≡ value_of (cells source.now) piece.now }
+    ensures { result ≡ value_of (S.Source.cells source.now) piece.now }
 {
     let n = digits(source, piece)?;
     limit(n)
@@ -76,7 +76,7 @@ pub fn value_of<S: Source>(source: &S, piece: &Piece) -> Result<u64, EvalFault>
 
 // Whether the cells of a piece write another number than 0.
 pub fn is_true<S: Source>(source: &S, piece: &Piece) -> Result<bool, EvalFault>
-    ensures { result ≡ truth_of (cells source.now) piece.now }
+    ensures { result ≡ truth_of (S.Source.cells source.now) piece.now }
 {
     let n = digits(source, piece)?;
     Ok(n != 0)

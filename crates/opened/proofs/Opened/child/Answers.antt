@@ -8,7 +8,11 @@ use Rattle.opened.proofs.Opened.child.Goals as goal
 pub invariant_of-result : goal.invariant_of-result
 invariant_of-result c =
     let s = c.args.self in
-    (s.few, (s.full, (subst (λ P. below (length P) s.lens s.count ≡ true) (sym c.in-Some.ensures) (child_below (path_of s.path) (step_of c.args.step) s.lens s.count s.inside), tt)))
+    record {
+      few = s.few;
+      full = s.full;
+      inside = subst (λ P. below (length P) s.lens s.count ≡ true) (sym c.in-Some.ensures) (child_below (path_of s.path) (step_of c.args.step) s.lens s.count s.inside);
+    }
 
 pub returns : goal.returns
 returns c =

@@ -12,17 +12,13 @@ invariant_of-result c =
     let n = s.count in
     let short : n < length s.lens = omega (arith, s.full) in
     let more : n + 1 ≡ suc n = omega arith in
-    let w = c.with_len-lens.ensures in (
-      omega arith,
-      (
-        ap length w ∙ length-set s.lens n c.len.result ∙ s.full,
-        (
+    let w = c.with_len-lens.ensures in record {
+      few = omega arith;
+      full = ap length w ∙ length-set s.lens n c.len.result ∙ s.full;
+      inside =
           ap (λ ls. below (length P) ls (n + 1)) w ∙ ap (λ k. below (length P) (set s.lens n k) (n + 1)) c.len.ensures.value ∙ ap (λ m. below (length P) (set s.lens n (length P)) m) more
-              ∙ open_below (length P) s.lens n short s.inside,
-          tt,
-        ),
-      ),
-    )
+              ∙ open_below (length P) s.lens n short s.inside;
+    }
 
 pub returns : goal.returns
 returns c =
