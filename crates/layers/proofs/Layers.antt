@@ -1,6 +1,5 @@
 -- How a layer's cells come from those below.
-use Rattle.std.proofs.Common.{◌≡◌, ℕ, zero, suc, ◌+◌, ◌-◌, ◌<◌, ◌≤◌, min, List, [], ◌∷◌, ◌++◌, map, length, take, drop, set, Some, None, Option, Result, sym, refl, ap, ◌∙◌, subst, ⊎_elim, arith, length-drop, length-take}
-use lib.ListN.{length-map}
+use Rattle.std.proofs.Common.{◌≡◌, ℕ, zero, suc, ◌+◌, ◌<◌, ◌≤◌, List, [], ◌∷◌, ◌++◌, map, length, take, drop, set, Some, None, Option, Result, sym, refl, ap, ◌∙◌, ⊎_elim, arith}
 use Rattle.std.specs.List.{slice_get}
 use Rattle.std.specs.Option.{option_map}
 use Rattle.std.proofs.lemmas.List.{map-set, set_past, drop-set-add, drop-set-lt, take-set-le}
@@ -9,7 +8,7 @@ use Rattle.std.proofs.lemmas.Bool.{cases_lt}
 use Rattle.cells.specs.declared.cell.Cell.{Cell}
 use Rattle.cells.specs.declared.cell.Cell.TheVariants.{Byte, Lost}
 use Rattle.cells.specs.declared.cell.ReadFault.{ReadFault}
-use Rattle.cells.specs.Cells.{Answers, answered, NoneLost, Lawful}
+use Rattle.cells.specs.Cells.{Answers, answered, NoneLost}
 use Rattle.layers.specs.Layers.{passed_up, aged, windowed, window_spares, Stands}
 use Rattle.layers.specs.Laws.{windowed_length}
 use Rattle.cells.proofs.Tells.{answers}

@@ -1,7 +1,5 @@
 -- No listing is longer than its buffer.
-use Rattle.std.proofs.Common.{◌≡◌, ℕ, ◌+◌, ◌-◌, ◌*◌, ◌/◌, ◌^◌, ◌<◌, ◌≤◌, Bool, true, false, cond, List, [], ◌∷◌, ◌++◌, length, take, drop, Some, None, codes, decimal, Option, sym, refl, ap, ◌∙◌, subst, inl, inr, arith, length-append, length-drop, length-take}
-use Rattle.told.specs.declared.Told.{Told}
-use Rattle.told.specs.Answers.{Answer, given, refused}
+use Rattle.std.proofs.Common.{◌≡◌, ℕ, ◌+◌, ◌-◌, ◌*◌, ◌^◌, ◌<◌, ◌≤◌, List, [], ◌∷◌, ◌++◌, length, drop, Some, None, codes, decimal, Option, refl, ap, ◌∙◌, inl, inr, arith, length-append, length-drop, length-take}
 use Rattle.cells.specs.declared.cell.Cell.{Cell}
 use Rattle.cells.specs.Captured.{opened, opened_by, bad_from, capture_cells}
 use Rattle.cells.specs.Laws.{capture_length}
@@ -10,8 +8,8 @@ use Rattle.cells.proofs.Faults.{fault_within}
 use Rattle.input.specs.Parts.{capture_text}
 use Rattle.input.proofs.Cuts.{capture_short}
 use Rattle.line.proofs.Decimal.{length_decimal_few}
-use Rattle.listing.specs.Parts.{cell_text, bytes_text, part_of}
-use Rattle.listing.specs.Rows.{behind_comma, tail_text, rest_text, value_text, told_text}
+use Rattle.listing.specs.Parts.{bytes_text, part_of}
+use Rattle.listing.specs.Rows.{behind_comma, rest_text, told_text}
 use Rattle.listing.specs.Lines.{laid_header, fault_header, fault, lines_of, ended, whole_text, of_message}
 use Rattle.sheet_text.specs.LineFaults.{StopsAt, LinesRefused}
 use Rattle.sheet_text.specs.Refusals.{number_of, sheet_told}

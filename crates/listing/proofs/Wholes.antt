@@ -1,5 +1,5 @@
 -- The whole text by the parts of the input.
-use Rattle.std.proofs.Common.{◌≡◌, ℕ, List, Ok, Err, Result, sym, ap, ◌∙◌}
+use Rattle.std.proofs.Common.{◌≡◌, ℕ, List, Result, ap, ◌∙◌}
 use Rattle.told.specs.Answers.{as_told}
 use Rattle.cells.specs.Captured.{opened}
 use Rattle.sheet_text.specs.Refusals.{sheet_told}

@@ -1,5 +1,5 @@
 -- The tests of columns, and what they say.
-use Rattle.std.proofs.Common.{◌≡◌, ℕ, ◌-◌, true, ◌||◌, ltb, ◌⊎◌, List, length, refl, ap, ◌∙◌, inl, inr, ⊎_elim, arith, ltb-true, lt-ltb, le-leb, leb-true}
+use Rattle.std.proofs.Common.{◌≡◌, ℕ, ◌-◌, true, ◌||◌, ltb, List, length, refl, ap, ◌∙◌, inl, inr, ⊎_elim, arith, ltb-true, lt-ltb, le-leb, leb-true}
 use Rattle.sheet_text.specs.declared.row.Row.{Row}
 use Rattle.sheet_text.specs.declared.row.Span.{Span}
 use Rattle.sheet_text.specs.declared.row.Column.{Column}

@@ -1,5 +1,5 @@
 -- The tests of bytes and names, and what they say.
-use Rattle.std.proofs.Common.{◌≡◌, ℕ, zero, suc, ◌<◌, ◌≤◌, Bool, true, false, cond, ◌||◌, eqb, ◌⊎◌, List, [], ◌∷◌, length, get_or, sym, refl, ◌∙◌, inl, inr, ⊎_elim, arith, eq-eqb, eqb-true, le-leb, leb-true}
+use Rattle.std.proofs.Common.{◌≡◌, ℕ, zero, suc, ◌<◌, ◌≤◌, Bool, true, false, cond, ◌||◌, eqb, List, [], ◌∷◌, length, get_or, sym, refl, ◌∙◌, inl, inr, ⊎_elim, arith, eq-eqb, eqb-true, le-leb, leb-true}
 use Rattle.sheet_text.specs.Chars.{within, is_letter, is_digit, class_of, leads, follows, name_bytes, is_name}
 use Rattle.sheet_text.specs.Plain.{Letter, Digit, NamePart, ProperName}
 use Rattle.sheet_text.specs.declared.token.NameByte.TheVariants as byte

@@ -1,5 +1,5 @@
 -- The values that bytes write.
-use Rattle.std.proofs.Common.{◌≡◌, ℕ, zero, suc, ◌-◌, ◌^◌, ◌<◌, Bool, true, false, cond, ◌||◌, eqb, ltb, ◌⊎◌, List, [], ◌∷◌, length, get_or, Some, None, Option, sym, refl, ap, ◌∙◌, subst, ⊎_elim, arith, ltb-true, eq-eqb, ne_eqb, eqb-true}
+use Rattle.std.proofs.Common.{◌≡◌, ℕ, zero, suc, ◌^◌, ◌<◌, Bool, true, false, cond, ◌||◌, eqb, ltb, List, [], ◌∷◌, length, get_or, Some, None, Option, sym, refl, ap, ◌∙◌, subst, ⊎_elim, arith, ltb-true, eq-eqb, ne_eqb, eqb-true}
 use Rattle.sheet_text.specs.Chars.{is_digit, is_name}
 use Rattle.sheet_text.specs.Values.{Value, name, number, blank, all_digits, decimal_after, bounded, digits_after, leads_with_zero, number_of, as_number, is_blank, value_of}
 use Rattle.sheet_text.specs.Lines.{is_stop}

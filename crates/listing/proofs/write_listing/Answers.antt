@@ -1,4 +1,4 @@
-use Rattle.std.proofs.Common.{◌≡◌, ◌≤◌, length, Ok, Err, refl, ap, ◌∙◌, subst, arith}
+use Rattle.std.proofs.Common.{◌≤◌, length, Ok, Err, refl, ap, ◌∙◌, subst, arith}
 use Rattle.sheet_text.specs.Rows.{laid}
 use Rattle.sheet.specs.Sheets.{read_of}
 use Rattle.line.specs.Text.{Appended}

@@ -1,6 +1,5 @@
 use Rattle.std.proofs.Common.{ap, ◌∙◌, subst}
-use Rattle.told.specs.Answers.{given, refused}
-use Rattle.cells.specs.Captured.{capture_cells}
+use Rattle.told.specs.Answers.{refused}
 use Rattle.line.specs.Text.{Appended}
 use Rattle.listing.specs.Lines.{lines_of, of_message, whole_text}
 use Rattle.listing.proofs.write_message.Goals as goal

@@ -1,4 +1,4 @@
-use Rattle.std.proofs.Common.{[], ◌∷◌, subst, arith}
+use Rattle.std.proofs.Common.{[], ◌∷◌, subst}
 use Rattle.line.specs.Fills.{Fills}
 use Rattle.line.proofs.Filling.{fills_more}
 use Rattle.listing.specs.Parts.{bytes_text, part_of}

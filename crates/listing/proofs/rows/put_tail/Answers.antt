@@ -1,4 +1,4 @@
-use Rattle.std.proofs.Common.{[], ◌∷◌, ◌++◌, decimal}
+use Rattle.std.proofs.Common.{◌++◌, decimal}
 use Rattle.line.proofs.Filling.{fills_more}
 use Rattle.listing.specs.Parts.{bytes_text, part_of}
 use Rattle.listing.specs.Rows.{behind_comma}

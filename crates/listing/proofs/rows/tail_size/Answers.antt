@@ -1,4 +1,4 @@
-use Rattle.std.proofs.Common.{◌+◌, [], ◌∷◌, ◌++◌, length, decimal, arith}
+use Rattle.std.proofs.Common.{◌+◌, ◌++◌, length, decimal, arith}
 use Rattle.line.proofs.Filling.{sized_more}
 use Rattle.listing.specs.Parts.{bytes_text, part_of}
 use Rattle.listing.specs.Rows.{behind_comma}
