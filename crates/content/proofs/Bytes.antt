@@ -1,16 +1,15 @@
 -- The cells of a piece, one after the other.
-use Rattle.std.proofs.Common.{◌≡◌, ℕ, zero, suc, ◌+◌, ◌-◌, ◌*◌, ◌<◌, ◌≤◌, min, Bool, true, false, cond, leb, List, [], ◌∷◌, length, drop, Some, None, Ok, Err, Option, Result, sym, refl, ap, ◌∙◌, subst, ⊎_elim, arith}
+use Rattle.std.proofs.Common.{◌≡◌, ℕ, zero, suc, ◌+◌, ◌-◌, ◌*◌, ◌<◌, ◌≤◌, List, [], ◌∷◌, drop, Ok, Err, sym, refl, ap, ◌∙◌, ⊎_elim, arith}
 use mathlib.Core.Bool
-use Rattle.std.proofs.lemmas.Bool.{cond-true, cond-false, le-leb, lt-leb, ne_eqb, cases_lt}
+use Rattle.std.proofs.lemmas.Bool.{cond-false, lt-leb, ne_eqb, cases_lt}
 use Rattle.std.specs.List.{slice_get}
 use Rattle.cells.specs.declared.cell.Cell.{Cell}
 use Rattle.cells.specs.declared.cell.Cell.TheVariants.{Byte, Lost}
 use Rattle.cells.specs.declared.cell.ReadFault.{ReadFault}
 use Rattle.cells.specs.declared.cell.ReadFault.TheVariants.{PastEnd, LostCell}
-use Rattle.cells.specs.Cells.{cell_read, answered, read_at}
+use Rattle.cells.specs.Cells.{answered, read_at}
 use Rattle.meaning.specs.Refusals.{from_read}
-use Rattle.meaning.specs.declared.fault.EvalFault.{EvalFault}
-use Rattle.meaning.specs.Values.{Outcome, unknown, ◌then◌, limited, is_true, unsigned}
+use Rattle.meaning.specs.Values.{Outcome, ◌then◌, limited, is_true, unsigned}
 use Rattle.content.specs.Content.{held}
 
 next_ok : (cs : List Cell) (j k n w b : ℕ) → answered j (slice_get cs k) ≡ Ok b → unsigned n (suc w) (drop k cs) ≡ unsigned (n * 256 + b) w (drop (suc k) cs)

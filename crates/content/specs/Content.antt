@@ -1,5 +1,5 @@
 -- What the cells of a piece write.
-use Rattle.std.specs.Prelude.{ℕ, min, Bool, List, Ok}
+use Rattle.std.specs.Prelude.{min, Bool, List, Ok}
 use Rattle.cells.specs.declared.cell.Cell.{Cell}
 use Rattle.path.specs.declared.Piece.{Piece}
 use Rattle.meaning.specs.Terms.{Number, piece_of}

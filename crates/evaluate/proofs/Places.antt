@@ -1,5 +1,5 @@
 -- What the proofs of the cycle cite: a row's value by its word, and the piece that steps lead to.
-use Rattle.std.proofs.Common.{◌≡◌, ℕ, zero, suc, ◌+◌, ◌-◌, ◌*◌, ◌<◌, ◌≤◌, List, [], ◌∷◌, ◌++◌, length, Some, None, Ok, Err, Option, Result, sym, refl, ap, ◌∙◌, subst, arith}
+use Rattle.std.proofs.Common.{◌≡◌, ℕ, ◌+◌, ◌-◌, ◌*◌, ◌<◌, ◌≤◌, List, ◌++◌, length, Some, None, Ok, Err, Option, sym, ap, ◌∙◌, subst, arith}
 use Rattle.cells.specs.declared.cell.Cell.{Cell}
 use Rattle.list.specs.declared.BoundedList.{BoundedList}
 use Rattle.list.specs.Contents.{contents}
@@ -13,16 +13,15 @@ use Rattle.sheet.specs.declared.checked.CheckedSheet.{CheckedSheet}
 use Rattle.sheet.specs.declared.rule.Family.{Family}
 use Rattle.sheet.specs.declared.rule.Family.TheVariants as family
 use Rattle.sheet_text.specs.declared.row.Row.{Row}
-use Rattle.sheet_text.specs.declared.word.Word.{Word}
 use Rattle.sheet_text.specs.declared.word.Word.TheVariants as word
-use Rattle.meaning.specs.Terms.{PieceSpec, pieces_of, Num, Steps, end}
+use Rattle.meaning.specs.Terms.{PieceSpec, pieces_of, Steps}
 use Rattle.meaning.specs.Forward.{ref_of, Leads, LeadsOn, row_at}
-use Rattle.meaning.specs.Stands.{from_by, number_at, steps_at, truth_at}
+use Rattle.meaning.specs.Stands.{from_by, steps_at}
 use Rattle.meaning.specs.Values.{Outcome, unknown, ◌then◌, climbed, placed, located}
 use Rattle.laws.proofs.Checked.{NoneOrLater, checked_forward, later_ref}
 use Rattle.laws.proofs.Unfold.{number_unfolds, steps_unfold, steps_end, truth_unfolds}
 use Rattle.opened.specs.declared.Opened.{Opened}
-use Rattle.opened.specs.Opens.{records_of, as_path}
+use Rattle.opened.specs.Opens.{records_of}
 use Rattle.evaluate.specs.Reaches.{extend, reach_of, as_reach}
 use Rattle.evaluate.specs.Evaluated.{number_as, steps_as, truth_as, number_value, truth_value, place_value, reach_value, number_of_row, truth_of_row, reach_of_row}
 use Rattle.evaluate.proofs.Measures.{from}

@@ -1,12 +1,10 @@
 -- A path that grows by a step.
-use Rattle.std.proofs.Common.{◌≡◌, ℕ, zero, suc, ◌+◌, ◌<◌, ◌≤◌, Bool, true, false, cond, ◌&&◌, ltb, leb, List, [], ◌∷◌, ◌++◌, map, length, take, Some, None, Option, sym, refl, ap, ◌∙◌, subst, ap₂, append_assoc, append-nil, arith, length-append, length-take, MatchOption}
+use Rattle.std.proofs.Common.{◌≡◌, ℕ, zero, suc, ◌+◌, ◌≤◌, Bool, true, false, cond, ◌&&◌, ltb, List, [], ◌∷◌, ◌++◌, map, length, take, Some, None, Option, sym, refl, ap, ◌∙◌, subst, ap₂, append_assoc, append-nil, arith, length-append, MatchOption}
 use Rattle.std.proofs.lemmas.Bool.{cond-true, cond-false, lt-ltb, le-ltb, le-leb, and_parts, ltb-true}
-use Rattle.path.specs.declared.Name.{Name}
-use Rattle.path.specs.declared.Element.{Element}
 use Rattle.path.specs.declared.Step.{Step}
 use Rattle.path.specs.declared.Step.TheVariants.{Field, Index}
 use Rattle.path.specs.declared.Path.{Path}
-use Rattle.path.specs.Meaning.{Downward, field, element, name_of, step_of, path_of}
+use Rattle.path.specs.Meaning.{Downward, field, step_of, path_of}
 use Rattle.sheet_text.specs.Chars.{is_name}
 use Rattle.sheet_text.specs.Plain.{ProperName}
 use Rattle.sheet_text.proofs.Plain.{name_is}

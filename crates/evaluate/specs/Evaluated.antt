@@ -1,5 +1,5 @@
 -- The values of the rows of a sheet, over the cells of a message, a list of pieces and the open records.
-use Rattle.std.specs.Prelude.{ℕ, zero, suc, ◌+◌, ◌*◌, min, Bool, true, false, cond, List, Some, None, Ok, Err, Option, Result}
+use Rattle.std.specs.Prelude.{ℕ, Bool, cond, List, Ok, Err, Option}
 use Rattle.cells.specs.declared.cell.Cell.{Cell}
 use Rattle.list.specs.declared.BoundedList.{BoundedList}
 use Rattle.list.specs.Contents.{contents}
@@ -10,7 +10,7 @@ use Rattle.sheet.specs.declared.checked.CheckedSheet.{CheckedSheet}
 use Rattle.sheet_text.specs.declared.row.Row.{Row}
 use Rattle.meaning.specs.Terms.{PieceSpec, piece_of, pieces_of, Num, Steps, Truth}
 use Rattle.meaning.specs.Stands.{from_at, number_of, steps_of, truth_of, number_at, steps_at, truth_at, is_bool}
-use Rattle.meaning.specs.Values.{Outcome, unknown, ◌then◌, located, content, limited, is_true, number, resolved, truth}
+use Rattle.meaning.specs.Values.{Outcome, unknown, ◌then◌, located, content, is_true, number, resolved, truth}
 use Rattle.opened.specs.declared.Opened.{Opened}
 use Rattle.opened.specs.Opens.{records_of}
 use Rattle.evaluate.specs.Reaches.{extend}

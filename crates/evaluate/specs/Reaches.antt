@@ -1,5 +1,5 @@
 -- A path that grows by steps, as long as a placed piece can have such a path.
-use Rattle.std.specs.Prelude.{ℕ, zero, suc, Bool, cond, ◌&&◌, List, [], ◌∷◌, ◌++◌, length, Some, None, Ok, Err, Option, Result, nat_le, nat_lt}
+use Rattle.std.specs.Prelude.{Bool, cond, ◌&&◌, List, [], ◌∷◌, ◌++◌, length, Some, None, Ok, Err, Option, nat_le, nat_lt}
 use Rattle.sheet_text.specs.Chars.{is_name}
 use Rattle.path.specs.declared.Path.{Path}
 use Rattle.path.specs.Meaning.{Downward, field, element, path_of}

@@ -1,12 +1,10 @@
-use Rattle.std.proofs.Common.{◌≡◌, ℕ, zero, suc, ◌≤◌, Bool, List, [], ◌∷◌, ◌++◌, length, Ok, Err, sym, refl, ◌∙◌, append_assoc, append-nil, arith, length-append, ltb-true, lt-ltb}
-use Rattle.cells.specs.declared.cell.Cell.{Cell}
-use Rattle.meaning.specs.Terms.{PieceSpec, Ty}
-use Rattle.meaning.specs.Layouts.{Reading}
-use Rattle.meaning.specs.Matcher.{accepted, lay, places}
+use Rattle.std.proofs.Common.{ℕ, ◌≤◌, List, [], ◌∷◌, ◌++◌, length, append_assoc, append-nil, arith, length-append, ltb-true, lt-ltb}
+use Rattle.meaning.specs.Terms.{PieceSpec}
+use Rattle.meaning.specs.Matcher.{places}
 use Rattle.meaning.specs.Stands.{type_at, is_bool}
 use Rattle.laws.specs.Laws.{AcceptsReadings}
 use Rattle.laws.proofs.Taken.{Taken}
-use Rattle.laws.proofs.Sound.{Added, sound}
+use Rattle.laws.proofs.Sound.{sound}
 use Rattle.laws.proofs.Complete.{complete}
 
 pub fits_taken : (room : ℕ) (A T : List PieceSpec) → length (A ++ T) ≤ room → Taken (places room) A T

@@ -1,8 +1,8 @@
-use Rattle.std.proofs.Common.{◌≡◌, ℕ, zero, suc, ◌<◌, ◌≤◌, Bool, true, false, List, [], ◌∷◌, ◌++◌, sym, refl, ap, ◌∙◌, subst, append_assoc, append-nil, arith}
+use Rattle.std.proofs.Common.{◌≡◌, ℕ, suc, ◌≤◌, Bool, true, false, List, [], ◌∷◌, ◌++◌, sym, refl, ◌∙◌, append_assoc, append-nil, arith}
 use Rattle.cells.specs.declared.cell.Cell.{Cell}
 use Rattle.path.specs.Meaning.{Downward, field, element}
-use Rattle.meaning.specs.Terms.{Name, Path, PieceSpec, Ty, base, void, rec, arr, alt, Fields, none, fld}
-use Rattle.meaning.specs.Layouts.{◌▸◌, chosen, Layout, base', rec', arr', alt', LayFields, none', fld', LayElements, done', elem'}
+use Rattle.meaning.specs.Terms.{Name, Path, PieceSpec, Ty, Fields}
+use Rattle.meaning.specs.Layouts.{◌▸◌, Layout, base', rec', arr', alt', LayFields, none', fld', LayElements, done', elem'}
 use Rattle.laws.specs.Distinct.{Apart, Distinct}
 use Rattle.laws.proofs.Named.{Fresh, Named, NamedFields}
 

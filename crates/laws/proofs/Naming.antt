@@ -1,13 +1,12 @@
 -- The fields of each record of a checked sheet have different names.
-use Rattle.std.proofs.Common.{◌≡◌, ℕ, zero, suc, ◌+◌, ◌<◌, ◌≤◌, Bool, true, false, cond, not, ◌&&◌, ◌||◌, ltb, List, [], ◌∷◌, length, get_or, Some, None, Option, sym, refl, ap, ◌∙◌, subst, arith}
+use Rattle.std.proofs.Common.{◌≡◌, ℕ, zero, suc, ◌+◌, ◌<◌, ◌≤◌, Bool, true, false, not, ◌&&◌, ◌||◌, List, [], ◌∷◌, length, Some, sym, refl, ap, ◌∙◌, subst, arith}
 use Rattle.std.specs.Str.{bytes_eq}
 use Rattle.std.proofs.lemmas.Slice.Eq.{bytes_eq-Decides}
 use Rattle.std.proofs.lemmas.Bool.{cond-true, lt-ltb}
-use Rattle.sheet.specs.Checks.{target, no_row, word_at}
-use Rattle.sheet.specs.Fields.{name_in, field_in, where_some, chain_names, member, distinct}
+use Rattle.sheet.specs.Checks.{target, word_at}
+use Rattle.sheet.specs.Fields.{name_in, where_some, chain_names, member, distinct}
 use Rattle.sheet.specs.Rules.{family_of, rule_of}
 use Rattle.sheet.specs.Verdict.{lawful}
-use Rattle.sheet.specs.declared.rule.Family.{Family}
 use Rattle.sheet.specs.declared.rule.Family.TheVariants as family
 use Rattle.sheet_text.specs.declared.row.Row.{Row}
 use Rattle.sheet_text.specs.declared.row.Column.{Column}
@@ -16,10 +15,10 @@ use Rattle.sheet_text.specs.declared.word.Word.{Word}
 use Rattle.sheet_text.specs.declared.word.Word.TheVariants as word
 use Rattle.sheet_text.specs.declared.word.TypeWord.TheVariants as type
 use Rattle.sheet.proofs.FieldLaws.{names_differ, field_word}
-use Rattle.meaning.specs.Terms.{Name, Num, Truth, Ty, Fields, none, fld}
+use Rattle.meaning.specs.Terms.{Name, Fields, none, fld}
 use Rattle.meaning.specs.Forward.{ref_of, BlankOrLater, Leads, row_at, Forward}
 use Rattle.sheet.specs.Keeps.{LaterRow}
-use Rattle.meaning.specs.Stands.{type_by, fields_by, fields_of, type_at, fields_at, number_at, truth_at, is_bool}
+use Rattle.meaning.specs.Stands.{type_by, fields_by, type_at, fields_at, number_at, truth_at}
 use Rattle.laws.proofs.Named.{Fresh, Named, NamedFields}
 use Rattle.laws.specs.Laws.{PathsDiffer}
 use Rattle.laws.proofs.Apart

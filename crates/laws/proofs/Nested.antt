@@ -1,10 +1,8 @@
 -- The depth of a row's term is the depth that the sheet was checked for.
-use Rattle.std.proofs.Common.{◌≡◌, ℕ, zero, suc, ◌+◌, ◌<◌, ◌≤◌, max, true, List, length, get_or, drop, Some, None, Option, sym, refl, ap, ◌∙◌, subst, ap₂, arith}
-use Rattle.sheet.specs.Checks.{target, no_row, word_at, same_family}
+use Rattle.std.proofs.Common.{◌≡◌, ℕ, zero, suc, ◌+◌, ◌<◌, ◌≤◌, max, List, length, drop, Some, None, Option, sym, refl, ap, ◌∙◌, ap₂, arith}
+use Rattle.sheet.specs.Checks.{target, word_at, same_family}
 use Rattle.sheet.specs.Depths.{depth_in, record_depth, shape_of, depth_as, entries}
 use Rattle.sheet.specs.Rules.{family_of, rule_of}
-use Rattle.sheet.specs.Verdict.{lawful}
-use Rattle.sheet.specs.declared.rule.Family.{Family}
 use Rattle.sheet.specs.declared.rule.Family.TheVariants as family
 use Rattle.sheet_text.specs.declared.row.Row.{Row}
 use Rattle.sheet_text.specs.declared.row.Column.{Column}

@@ -1,15 +1,12 @@
-use Rattle.std.proofs.Common.{◌≡◌, ℕ, zero, suc, ◌+◌, ◌*◌, ◌<◌, ◌≤◌, min, Bool, true, false, cond, eqb, ltb, List, [], ◌∷◌, ◌++◌, length, take, drop, Ok, Err, sym, refl, ap, ◌∙◌, subst, ap₂, append_assoc, append-nil, add-zero, add_assoc, add-suc, suc-add, zero-add, arith, length-append, length-take}
+use Rattle.std.proofs.Common.{◌≡◌, ℕ, zero, suc, ◌+◌, ◌*◌, ◌≤◌, Bool, true, false, cond, List, [], ◌∷◌, ◌++◌, length, take, drop, Ok, Err, sym, refl, ap, ◌∙◌, append_assoc, append-nil, add_assoc, zero-add, arith, length-append, length-take}
 use Rattle.cells.specs.declared.cell.Cell.{Cell}
 use Rattle.cells.specs.declared.cell.Cell.TheVariants.{Byte, Lost}
-use Rattle.path.specs.Meaning.{Downward, field, element}
-use Rattle.sheet_text.specs.declared.word.Base.{Base}
-use Rattle.sheet_text.specs.Table.{width_of}
-use Rattle.meaning.specs.Terms.{Name, Path, PieceSpec, total}
+use Rattle.meaning.specs.Terms.{Path, PieceSpec, total}
 use Rattle.meaning.specs.Terms.{Num, no_number, lit, loc, add, mul, Steps, no_steps, end, dot, idx, Truth, no_truth, yea, nay, bloc, not, both, either, eq, lt}
-use Rattle.meaning.specs.Terms.{Ty, base, void, rec, arr, alt, Fields, none, fld}
-use Rattle.meaning.specs.Values.{Outcome, unknown, ◌then◌, limited, is_true, climbed, placed, same_path, located, unsigned, content, number, resolved, truth}
-use Rattle.meaning.specs.Layouts.{◌▸◌, piece_at, Layout, base', rec', arr', alt', LayFields, none', fld', LayElements, done', elem', chosen, Reading}
-use Rattle.meaning.specs.Stands.{type_at, is_bool}
+use Rattle.meaning.specs.Terms.{Ty, Fields}
+use Rattle.meaning.specs.Values.{Outcome, unknown, ◌then◌, limited, is_true, placed, same_path, located, unsigned, content, number, resolved, truth}
+use Rattle.meaning.specs.Layouts.{piece_at, Layout, base', rec', arr', alt', LayFields, none', fld', LayElements, done', elem'}
+use Rattle.meaning.specs.Stands.{is_bool}
 use Rattle.laws.specs.Laws.{CoveredCellsDecide}
 
 -- the content of a piece is decided by its own cells

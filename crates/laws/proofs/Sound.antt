@@ -1,12 +1,12 @@
-use Rattle.std.proofs.Common.{◌≡◌, ℕ, zero, suc, ◌+◌, ◌<◌, ◌≤◌, Bool, true, false, cond, ltb, leb, List, [], ◌∷◌, ◌++◌, length, Ok, Err, sym, refl, ap, ◌∙◌, subst, ap₂, append_assoc, append-nil, arith, length-append, ltb-true, leb-true}
+use Rattle.std.proofs.Common.{◌≡◌, ℕ, zero, suc, ◌+◌, Bool, true, false, cond, leb, List, [], ◌∷◌, ◌++◌, length, Ok, Err, sym, refl, ap, ◌∙◌, subst, append_assoc, append-nil, arith, leb-true}
 use Rattle.cells.specs.declared.cell.Cell.{Cell}
-use Rattle.path.specs.Meaning.{Downward, field, element}
+use Rattle.path.specs.Meaning.{field, element}
 use Rattle.sheet_text.specs.declared.word.Base.{Base}
 use Rattle.sheet_text.specs.Table.{width_of}
-use Rattle.meaning.specs.Terms.{Name, Path, PieceSpec, total, Num, Truth}
+use Rattle.meaning.specs.Terms.{Path, PieceSpec, total, Truth}
 use Rattle.meaning.specs.Terms.{Ty, base, void, rec, arr, alt, Fields, none, fld}
-use Rattle.meaning.specs.Values.{Outcome, unknown, number, truth}
-use Rattle.meaning.specs.Layouts.{◌▸◌, piece_at, Layout, base', rec', arr', alt', LayFields, none', fld', LayElements, done', elem', chosen, Reading}
+use Rattle.meaning.specs.Values.{Outcome, number, truth}
+use Rattle.meaning.specs.Layouts.{◌▸◌, piece_at, Layout, base', rec', arr', alt', LayFields, none', fld', LayElements, done', elem'}
 use Rattle.meaning.specs.Matcher.{Laid, accepted, refused, Fault, full, past, too_many, ◌onward◌, needed, repeated, put_piece, lay, lay_fields}
 use Rattle.laws.proofs.Taken.{Taken}
 

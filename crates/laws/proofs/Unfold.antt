@@ -1,9 +1,9 @@
 -- A row's term is the row over its references' terms.
-use Rattle.std.proofs.Common.{◌≡◌, ℕ, zero, suc, ◌+◌, ◌<◌, ◌≤◌, List, [], ◌∷◌, length, Some, None, Option, sym, refl, ap, ◌∙◌, subst, ap₂, arith}
+use Rattle.std.proofs.Common.{◌≡◌, ℕ, zero, suc, ◌+◌, ◌<◌, ◌≤◌, List, length, Some, None, Option, refl, ap, ap₂, arith}
 use lib.ListN.{get_or-eq_default}
-use Rattle.sheet.specs.Checks.{target, no_row, word_at}
+use Rattle.sheet.specs.Checks.{target, no_row}
 use Rattle.sheet.specs.Fields.{name_in}
-use Rattle.sheet.specs.Rules.{family_of, rule_of}
+use Rattle.sheet.specs.Rules.{rule_of}
 use Rattle.sheet.specs.declared.rule.Family.{Family}
 use Rattle.sheet.specs.declared.rule.Family.TheVariants as family
 use Rattle.sheet_text.specs.declared.row.Row.{Row}
@@ -15,12 +15,10 @@ use Rattle.sheet_text.specs.declared.word.TypeWord.TheVariants as type
 use Rattle.sheet_text.specs.declared.word.NumberWord.TheVariants as number
 use Rattle.sheet_text.specs.declared.word.TruthWord.TheVariants as truth
 use Rattle.sheet_text.specs.declared.word.StepWord.TheVariants as step
-use Rattle.meaning.specs.Terms.{Num, lit, loc, add, mul, Steps, end, dot, idx, Truth, yea, nay, bloc, not, both, either, eq, lt}
-use Rattle.meaning.specs.Terms.{Ty, void, rec, arr, alt, Fields, none, fld}
+use Rattle.meaning.specs.Terms.{Num, loc, add, mul, Steps, end, dot, idx, Truth, not, both, either}
+use Rattle.meaning.specs.Terms.{Ty, rec, arr, alt, Fields, none, fld}
 use Rattle.meaning.specs.Forward.{ref_of, BlankOrLater, Leads, row_at, Forward}
-use Rattle.sheet.specs.Keeps.{LaterRow}
-use Rattle.meaning.specs.Stands.{from_by, from_at, number_by, steps_by, truth_by, type_by, fields_by, number_of, steps_of, truth_of, type_of, fields_of, number_in, steps_in, number_at, steps_at, truth_in, truth_at, type_in, fields_in, type_at, fields_at}
-use Rattle.laws.specs.Unfolds.{Unfolds}
+use Rattle.meaning.specs.Stands.{from_by, number_by, steps_by, truth_by, type_by, fields_by, number_of, steps_of, truth_of, type_of, fields_of, number_in, steps_in, number_at, steps_at, truth_in, truth_at, type_in, fields_in, type_at, fields_at}
 use Rattle.laws.specs.Laws.{RowsUnfold}
 use Rattle.laws.proofs.Checked.{checked_forward}
 

@@ -1,12 +1,8 @@
-use Rattle.std.proofs.Common.{◌≡◌, ℕ, zero, suc, ◌+◌, ◌≤◌, Bool, true, false, List, [], ◌∷◌, ◌++◌, Ok, Err, sym, refl, ap, ◌∙◌, subst, ap₂}
+use Rattle.std.proofs.Common.{◌≡◌, ℕ, Bool, List, ◌++◌, sym, refl, ap₂}
 use Rattle.cells.specs.declared.cell.Cell.{Cell}
-use Rattle.path.specs.Meaning.{Downward, field, element}
-use Rattle.sheet_text.specs.declared.word.Base.{Base}
-use Rattle.sheet_text.specs.Table.{width_of}
-use Rattle.meaning.specs.Terms.{Name, Path, PieceSpec, total, Num, Truth}
-use Rattle.meaning.specs.Terms.{Ty, base, void, rec, arr, alt, Fields, none, fld}
-use Rattle.meaning.specs.Values.{Outcome, number, truth}
-use Rattle.meaning.specs.Layouts.{Layout, base', rec', arr', alt', LayFields, none', fld', LayElements, done', elem', chosen}
+use Rattle.meaning.specs.Terms.{Path, PieceSpec}
+use Rattle.meaning.specs.Terms.{Ty, Fields}
+use Rattle.meaning.specs.Layouts.{Layout, base', rec', arr', alt', LayFields, none', fld', LayElements, done', elem'}
 use Rattle.laws.specs.Laws.{OneReading}
 
 module _ {flag : ℕ → Bool} {cells : List Cell} where

@@ -1,12 +1,12 @@
 -- What a reading is. Values are worked out after the pieces placed ahead (`A`), with certain records open, innermost first (`open'`).
-use Rattle.std.specs.Prelude.{◌≡◌, ℕ, zero, suc, ◌+◌, ◌≤◌, Bool, true, false, List, [], ◌∷◌, ◌++◌, length, Ok, Err}
+use Rattle.std.specs.Prelude.{◌≡◌, ℕ, suc, ◌+◌, ◌≤◌, Bool, true, false, List, [], ◌∷◌, ◌++◌, length, Ok}
 use Rattle.cells.specs.declared.cell.Cell.{Cell}
 use Rattle.path.specs.Meaning.{Downward, field, element}
 use Rattle.sheet_text.specs.declared.word.Base.{Base}
 use Rattle.sheet_text.specs.Table.{width_of}
 use Rattle.meaning.specs.Terms.{Name, Path, PieceSpec, total, Num, Truth}
-use Rattle.meaning.specs.Terms.{Ty, base, void, rec, arr, alt, Fields, none, fld}
-use Rattle.meaning.specs.Values.{Outcome, number, truth}
+use Rattle.meaning.specs.Terms.{Ty, base, rec, arr, alt, Fields, none, fld}
+use Rattle.meaning.specs.Values.{number, truth}
 
 -- one step further down
 abbrev pub ◌▸◌ : Path → Downward → Path

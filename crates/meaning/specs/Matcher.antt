@@ -1,11 +1,11 @@
 -- The matcher: the row in front is opened, a base row becomes a piece, and every other row is replaced by its parts.
-use Rattle.std.specs.Prelude.{ℕ, zero, suc, ◌+◌, Bool, true, false, cond, List, [], ◌∷◌, ◌++◌, length, Ok, Err, nat_le, nat_lt}
+use Rattle.std.specs.Prelude.{ℕ, zero, suc, ◌+◌, Bool, cond, List, [], ◌∷◌, ◌++◌, length, Ok, Err, nat_le, nat_lt}
 use Rattle.meaning.specs.declared.fault.EvalFault.{EvalFault}
 use Rattle.cells.specs.declared.cell.Cell.{Cell}
-use Rattle.path.specs.Meaning.{Downward, field, element}
+use Rattle.path.specs.Meaning.{field, element}
 use Rattle.sheet_text.specs.declared.word.Base.{Base}
 use Rattle.sheet_text.specs.Table.{width_of}
-use Rattle.meaning.specs.Terms.{Name, Path, PieceSpec, total, Num, Truth}
+use Rattle.meaning.specs.Terms.{Path, PieceSpec, total}
 use Rattle.meaning.specs.Terms.{Ty, base, void, rec, arr, alt, Fields, none, fld}
 use Rattle.meaning.specs.Values.{Outcome, number, truth}
 use Rattle.meaning.specs.Layouts.{◌▸◌, piece_at}

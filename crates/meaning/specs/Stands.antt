@@ -1,5 +1,5 @@
 -- What a row stands for, as a term: references followed as far as they go. Since they all lead to higher rows, as many turns as there are rows suffice.
-use Rattle.std.specs.Prelude.{◌≡◌, ℕ, zero, suc, ◌<◌, ◌≤◌, Bool, true, false, List, [], ◌∷◌, length, Some, None, Option}
+use Rattle.std.specs.Prelude.{ℕ, zero, suc, Bool, true, false, List, length, Some, None, Option}
 use Rattle.sheet.specs.Checks.{target}
 use Rattle.sheet.specs.Fields.{name_in}
 use Rattle.sheet.specs.Verdict.{word_if}

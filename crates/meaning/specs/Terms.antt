@@ -1,5 +1,5 @@
 -- What the rows of a sheet stand for, and what pieces are.
-use Rattle.std.specs.Prelude.{ℕ, zero, suc, ◌+◌, List, [], ◌∷◌, map}
+use Rattle.std.specs.Prelude.{ℕ, ◌+◌, List, [], ◌∷◌, map}
 use Rattle.sheet_text.specs.declared.word.Base.{Base}
 use Rattle.path.specs.Meaning.{Downward, path_of}
 use Rattle.path.specs.declared.Piece.{Piece}

@@ -2,13 +2,12 @@
 use Rattle.std.specs.Prelude.{ℕ, zero, suc, ◌+◌, ◌*◌, Bool, true, false, cond, ◌&&◌, ◌||◌, List, [], ◌∷◌, ◌++◌, drop, Ok, Err, Result, ◌==◌, nat_le, nat_lt}
 use Rattle.std.proofs.Math.Bool
 use Rattle.std.specs.Str.{bytes_eq}
-use Rattle.cells.specs.declared.cell.Mark.{Mark}
 use Rattle.cells.specs.declared.cell.Cell.{Cell}
 use Rattle.cells.specs.declared.cell.Cell.TheVariants.{Byte, Lost}
 use Rattle.path.specs.Meaning.{Downward, field, element}
 use Rattle.meaning.specs.declared.fault.EvalFault.{EvalFault}
 use Rattle.meaning.specs.declared.fault.EvalFault.TheVariants as fault
-use Rattle.meaning.specs.Terms.{Name, Path, PieceSpec, Number}
+use Rattle.meaning.specs.Terms.{Path, PieceSpec, Number}
 use Rattle.meaning.specs.Terms.{Num, no_number, lit, loc, add, mul, Steps, no_steps, end, dot, idx, Truth, no_truth, yea, nay, bloc, not, both, either, eq, lt}
 
 -- a value, or the first refusal met

@@ -1,10 +1,10 @@
 -- The open records by number.
-use Rattle.std.proofs.Common.{◌≡◌, ℕ, zero, suc, ◌+◌, ◌-◌, ◌<◌, ◌≤◌, Bool, true, ◌&&◌, leb, List, [], ◌∷◌, ◌++◌, length, get_or, take, set, Ok, Err, sym, refl, ap, ◌∙◌, ap₂, arith, length-append, leb-true}
+use Rattle.std.proofs.Common.{◌≡◌, ℕ, zero, suc, ◌-◌, ◌<◌, ◌≤◌, true, ◌&&◌, leb, List, [], ◌∷◌, ◌++◌, length, get_or, take, set, Ok, refl, ap, ◌∙◌, ap₂, arith, length-append, leb-true}
 use Rattle.std.proofs.lemmas.Bool.{and_parts, le-leb}
 use Rattle.std.proofs.lemmas.List.{take-append-le, take_all, get_or-set_same, get_or-set_other}
 use Rattle.opened.specs.Below.{below}
 use Rattle.path.specs.Meaning.{Downward}
-use Rattle.meaning.specs.Values.{Outcome, unknown, climbed}
+use Rattle.meaning.specs.Values.{unknown, climbed}
 use Rattle.opened.specs.Opens.{fronts}
 
 module _ (P : List Downward) (lens : List ℕ) where

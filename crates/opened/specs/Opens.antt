@@ -1,5 +1,5 @@
 -- The open records: fronts of the path that is being laid, innermost first.
-use Rattle.std.specs.Prelude.{ℕ, zero, suc, List, [], ◌∷◌, take, Some, None, Ok, Err, Option, slice_index}
+use Rattle.std.specs.Prelude.{ℕ, zero, suc, List, [], ◌∷◌, take, Some, None, Ok, Option, slice_index}
 use Rattle.path.specs.declared.Path.{Path}
 use Rattle.path.specs.Meaning.{Downward, path_of}
 use Rattle.meaning.specs.Values.{Outcome, unknown}

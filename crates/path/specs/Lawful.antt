@@ -1,5 +1,5 @@
 -- The steps and paths that there can be.
-use Rattle.std.specs.Prelude.{ℕ, ◌≤◌, List, length}
+use Rattle.std.specs.Prelude.{◌≤◌, List, length}
 use Rattle.std.specs.List.{AllByRecursion as All}
 use Rattle.sheet_text.specs.Plain.{ProperName}
 use Rattle.path.specs.Meaning.{Downward, field, element}

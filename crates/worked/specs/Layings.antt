@@ -1,7 +1,7 @@
 -- The worked examples of laying.
-use Rattle.std.specs.Prelude.{◌≡◌, ℕ, List, [], ◌∷◌, Some, None, codes}
+use Rattle.std.specs.Prelude.{◌≡◌, [], ◌∷◌, Some, None, codes}
 use Rattle.told.specs.Answers.{given, refused}
-use Rattle.path.specs.Meaning.{Downward, field, element}
+use Rattle.path.specs.Meaning.{field, element}
 use Rattle.meaning.specs.Matcher.{accepted}
 use Rattle.worked.specs.Sheets.{Accepted, laying, tells, refusal, piece, points, empty, empties, too_many_empties, above, above_or, two_versions, count_behind, own_counts}
 

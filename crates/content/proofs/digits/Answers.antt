@@ -1,4 +1,4 @@
-use Rattle.std.proofs.Common.{◌≡◌, ◌+◌, ◌-◌, drop, Ok, sym, refl, ap, ◌∙◌, arith, rules}
+use Rattle.std.proofs.Common.{◌≡◌, ◌+◌, ◌-◌, drop, Ok, sym, ap, ◌∙◌, arith}
 use Rattle.meaning.specs.Values.{◌then◌, unsigned}
 use Rattle.content.specs.Content.{held}
 use Rattle.std.proofs.lemmas.Result.{err_from_is_err_and}

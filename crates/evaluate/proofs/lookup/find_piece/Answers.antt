@@ -1,4 +1,4 @@
-use Rattle.std.proofs.Common.{◌≡◌, sym, ap, ◌∙◌}
+use Rattle.std.proofs.Common.{sym, ap, ◌∙◌}
 use Rattle.list.specs.Contents.{contents}
 use Rattle.path.specs.Meaning.{path_of}
 use Rattle.evaluate.proofs.Finding.{found, first_placed}

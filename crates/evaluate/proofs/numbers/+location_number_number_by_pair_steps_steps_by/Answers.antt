@@ -1,11 +1,9 @@
-use Rattle.std.proofs.Common.{◌≡◌, length, Some, None, Ok, Err, sym, refl, ap, ◌∙◌, subst, arith, rules}
+use Rattle.std.proofs.Common.{◌≡◌, length, Some, sym, refl, ap, ◌∙◌, arith}
 use Rattle.list.specs.Contents.{contents}
 use Rattle.path.specs.Meaning.{path_of}
-use Rattle.sheet.specs.Sheets.{rows_of, text_of}
 use Rattle.meaning.specs.Forward.{ref_of}
 use Rattle.meaning.specs.Terms.{pieces_of}
 use Rattle.meaning.specs.Values.{placed}
-use Rattle.opened.specs.Opens.{records_of}
 use Rattle.evaluate.specs.Reaches.{reach_of}
 use Rattle.evaluate.specs.Evaluated.{reach_value}
 use Rattle.evaluate.proofs.Measures.{from}

@@ -1,4 +1,4 @@
-use Rattle.std.proofs.Common.{◌≡◌, sym, refl, ap, ◌∙◌}
+use Rattle.std.proofs.Common.{sym, ap, ◌∙◌}
 use Rattle.path.specs.Meaning.{step_of}
 use Rattle.evaluate.specs.Reaches.{push, reach_of}
 use Rattle.evaluate.proofs.Reached.{child_push}

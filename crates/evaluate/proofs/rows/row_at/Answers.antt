@@ -1,4 +1,4 @@
-use Rattle.std.proofs.Common.{◌≡◌, length, sym, refl, ap, ◌∙◌, arith, rules}
+use Rattle.std.proofs.Common.{length, sym, ap, arith}
 use lib.ListN.{get_or-eq_default}
 use Rattle.sheet.specs.Checks.{no_row}
 use Rattle.evaluate.proofs.rows.row_at.Goals as goal

@@ -1,4 +1,4 @@
-use Rattle.std.proofs.Common.{◌≡◌, sym, refl, ap, ◌∙◌, subst, arith, rules}
+use Rattle.std.proofs.Common.{◌∙◌, arith}
 use Rattle.evaluate.proofs.Places.{row_proper, truth_at_lem}
 use Rattle.evaluate.proofs.truths.+truth_truth_by_truths.Goals as goal
 

@@ -1,5 +1,5 @@
 use Rattle.std.proofs.Common.{rules}
-use Rattle.list.proofs.Fronts.{nth_front_read, nth_take_past}
+use Rattle.list.proofs.Fronts.{nth_front_read}
 use Rattle.std.proofs.lemmas.Option.{slice_get_past}
 use Rattle.list.proofs.places.entry_at.Goals as goal
 

@@ -1,5 +1,4 @@
-use Rattle.std.proofs.Common.{◌≡◌, ◌<◌, ◌≤◌, length, take, sym, ap, ◌∙◌, arith, rules}
-use Rattle.list.specs.Contents.{first_of}
+use Rattle.std.proofs.Common.{rules}
 use Rattle.list.proofs.Finds.{first_here, first_later, first_none}
 use Rattle.list.proofs.places.find_in.Goals as goal
 

@@ -1,4 +1,4 @@
-use Rattle.std.proofs.Common.{◌≡◌, true, length, sym, refl, ap, ◌∙◌, subst, rules}
+use Rattle.std.proofs.Common.{◌≡◌, true, length, sym, ap, ◌∙◌, subst}
 use Rattle.path.specs.Meaning.{path_of, step_of}
 use Rattle.opened.specs.Below.{below}
 use Rattle.opened.specs.Opens.{fronts}

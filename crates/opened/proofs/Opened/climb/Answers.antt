@@ -1,4 +1,4 @@
-use Rattle.std.proofs.Common.{◌≡◌, take, Ok, Err, sym, refl, ap, ◌∙◌, arith, rules}
+use Rattle.std.proofs.Common.{Ok, sym, ap, ◌∙◌, arith}
 use Rattle.path.specs.Meaning.{path_of}
 use Rattle.opened.proofs.Climbs.{climbed_past, climbed_at}
 use Rattle.opened.proofs.Opened.climb.Goals as goal

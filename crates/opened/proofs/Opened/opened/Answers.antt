@@ -1,4 +1,4 @@
-use Rattle.std.proofs.Common.{◌≡◌, suc, ◌+◌, ◌<◌, true, length, set, sym, refl, ap, ◌∙◌, subst, arith, length-set, rules}
+use Rattle.std.proofs.Common.{◌≡◌, suc, ◌+◌, ◌<◌, length, set, refl, ap, ◌∙◌, arith, length-set}
 use Rattle.path.specs.Meaning.{path_of}
 use Rattle.opened.specs.Below.{below}
 use Rattle.opened.specs.Opens.{fronts}
@@ -17,7 +17,7 @@ invariant_of-result c =
       full = ap length w ∙ length-set s.lens n c.len.result ∙ s.full;
       inside =
           ap (λ ls. below (length P) ls (n + 1)) w ∙ ap (λ k. below (length P) (set s.lens n k) (n + 1)) c.len.ensures.value ∙ ap (λ m. below (length P) (set s.lens n (length P)) m) more
-              ∙ open_below (length P) s.lens n short s.inside;
+          ∙ open_below (length P) s.lens n short s.inside;
     }
 
 pub returns : goal.returns

@@ -1,8 +1,8 @@
-use Rattle.std.proofs.Common.{◌≡◌, [], ◌∷◌, ◌++◌, map, length, get_or, take, sym, refl, ap, ◌∙◌, arith}
+use Rattle.std.proofs.Common.{◌≡◌, map, length, take, sym, refl, ap, ◌∙◌, arith}
 use Rattle.std.specs.List.{slice_get}
 use Rattle.std.proofs.lemmas.List.{map_more}
 use Rattle.std.proofs.lemmas.Bool.{false≢true}
-use Rattle.path.specs.Meaning.{Downward, step_of, path_of}
+use Rattle.path.specs.Meaning.{step_of}
 use Rattle.path.proofs.Laws.{path_length, step_at}
 use Rattle.path.proofs.Path.same.Goals as goal
 
