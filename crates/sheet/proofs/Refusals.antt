@@ -156,7 +156,7 @@ module _ (text : List ℕ) (rows : List Row) where
         let x = listed_field text rows (length rows) (get_or rows k no_row).one t.0 (omega (arith, t.1.1.0, t.1.1.1)) in
         let y = listed_field text rows (length rows) (get_or rows k no_row).one t.1.0 t.1.1.1 in
         record {
-          is_record_lem = record_word (word_at rows k) n.0;
+          is_record = record_word (word_at rows k) n.0;
           i = t.0;
           j = t.1.0;
           a = x.0;
@@ -169,7 +169,7 @@ module _ (text : List ℕ) (rows : List Row) where
 
     name_good : (k : ℕ) → k < length rows → fields_differ text rows (get_or rows k no_row) ≡ true → NameTwice text rows k → ⊥
     name_good k h e n =
-        let w = n.is_record_lem in
+        let w = n.is_record in
         let d : distinct (chain_names (length rows) text rows (get_or rows k no_row).one) ≡ true = sym (ap (λ v. not (is_record v) || distinct (chain_names (length rows) text rows (get_or rows k no_row).one)) w) ∙ e in
         names_apart text rows columns k h w d n.i n.j n.a n.b n.before n.first n.second n.same
 

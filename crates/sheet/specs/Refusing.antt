@@ -17,7 +17,7 @@ KeepsRule text rows k = AsAsked text rows k (slice_index_or rows k no_row) × (k
 
 -- two fields of the record in row k have one name
 pub record NameTwice (text : List ℕ) (rows : List Row) (k : ℕ) : Type 0 where
-  pub is_record_lem : word_at rows k ≡ word.Type type.Rec
+  pub is_record : word_at rows k ≡ word.Type type.Rec
   pub i : ℕ
   pub j : ℕ
   pub a : ℕ
