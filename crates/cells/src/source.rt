@@ -30,7 +30,7 @@ pub trait Store: Source {
     ghost fixed: { Self → List ℕ };
 
     // Makes cell k the byte b, and answers the byte that stood there. Past the end it refuses,
-    // and `set` then leaves the list as it is.
+    // and `slice_set` then leaves the list as it is.
     fn write(&mut self, k: usize, b: u8) -> Result<u8, ReadFault>
         ensures whole { NoneLost (Self.cells self.old) }
         ensures answer { Answers (Self.cells self.old) k result }

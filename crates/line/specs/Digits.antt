@@ -1,5 +1,5 @@
 -- Digits in print.
-use Rattle.std.specs.Prelude.{◌≡◌, ℕ, ◌+◌, ◌-◌, ◌*◌, ◌/◌, ◌%◌, ◌<◌, ◌≤◌, cond, List, [], ◌∷◌, length, nat_lt, slice_index, slice_index_or}
+use Rattle.std.specs.Prelude.{◌≡◌, ℕ, ◌+◌, ◌-◌, ◌*◌, ◌/◌, ◌%◌, ◌<◌, ◌≤◌, cond, List, [], ◌∷◌, length, nat_lt, slice_index}
 
 -- a hexadecimal digit in lower case: 48 is `0` and 97 is `a`
 abbrev pub hex_digit : ℕ → ℕ
@@ -19,4 +19,4 @@ pub record Writes (n : ℕ) (ds : List ℕ) : Type 0 where
   pub some : 0 < length ds
   pub digits : (k : ℕ) → k < length ds → (48 ≤ slice_index ds k) × (slice_index ds k ≤ 57)
   pub value : decimal_after 0 ds ≡ n
-  pub plain : slice_index_or ds 0 0 ≡ 48 → length ds ≡ 1
+  pub plain : slice_index ds 0 ≡ 48 → length ds ≡ 1

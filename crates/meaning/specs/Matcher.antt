@@ -12,7 +12,7 @@ use Rattle.meaning.specs.Layouts.{◌▸◌, piece_at}
 
 pub data Fault : Type 0 where
   -- a base piece would pass the end; void is opened; the place where the pieces go does not take the next one; an array's number is above 65,535
-  past opened-void full too_many : Fault
+  past opened_void full too_many : Fault
   -- a number or a truth that is needed has no value
   unresolved : EvalFault → Fault
 
@@ -49,7 +49,7 @@ module _ (flag : ℕ → Bool) (cells : List Cell) (takes : List PieceSpec → P
   abbrev mutual
     pub lay : Ty → Path → List Path → List PieceSpec → Laid
     lay (base r w) P open' A = put_piece P r w A
-    lay (void r) P open' A = refused opened-void r A
+    lay (void r) P open' A = refused opened_void r A
     lay (rec r fs) P open' A = lay_fields fs P (P ∷ open') A
     lay (arr r n τ) P open' A =
         needed (number flag cells A open' n) r A λ d.

@@ -8,7 +8,7 @@ use Rattle.meaning.specs.Refusals.{eval_told}
 use Rattle.meaning.specs.Terms.{PieceSpec, total}
 use Rattle.meaning.specs.Stands.{type_at, is_bool}
 use Rattle.meaning.specs.Layouts.{Reading}
-use Rattle.meaning.specs.Matcher.{Fault, past, opened-void, full, too_many, unresolved, Laid, accepted, lay, places}
+use Rattle.meaning.specs.Matcher.{Fault, past, opened_void, full, too_many, unresolved, Laid, accepted, lay, places}
 use Rattle.meaning.specs.Matcher
 
 -- T is a reading of the cells by the sheet of these rows over that text
@@ -22,7 +22,7 @@ matched text rows cells room = lay (is_bool rows) cells (places room) (type_at t
 -- the numbers of the matcher's refusals
 abbrev pub fault_told : Fault → Told
 fault_told past = bare 11
-fault_told opened-void = bare 13
+fault_told opened_void = bare 13
 fault_told full = bare 14
 fault_told too_many = bare 15
 fault_told (unresolved e) = eval_told e

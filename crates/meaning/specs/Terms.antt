@@ -34,7 +34,7 @@ total (p ∷ ps) = p.width + total ps
 abbrev pub Number : Type 0
 Number = ℕ
 
--- A row that is asked for as what it is not stands for a `no-...`, which has no value; no checked sheet asks for one.
+-- A row that is asked for as what it is not stands for a `no_...`, which has no value; no checked sheet asks for one.
 mutual
   -- numbers; a location is a climb and steps
   pub data Num : Type 0 where

@@ -1,6 +1,6 @@
 -- The steps of a path, one by one.
 use Rattle.std.proofs.Common.{◌≡◌, ℕ, ◌<◌, List, [], ◌∷◌, map, length, get_or, take, Some, ap, ◌∙◌, arith}
-use Rattle.std.specs.List.{slice_get, AllByRecursion as All}
+use Rattle.std.specs.List.{slice_get, AllByRecursion}
 use Rattle.std.proofs.lemmas.List.{length-map, length-take-le, get_or-map, get_or-take}
 use Rattle.std.proofs.lemmas.Option.{slice_get-get_or}
 use Rattle.sheet_text.proofs.Plain.{name_is}
@@ -14,7 +14,7 @@ pub lawful_step : (s : Step) → Lawful (step_of s)
 lawful_step (Field n) = name_is (name_of n) n.proper
 lawful_step (Index i) = i.small
 
-all_lawful : (ss : List Step) → All Lawful (map step_of ss)
+all_lawful : (ss : List Step) → AllByRecursion Lawful (map step_of ss)
 all_lawful [] = tt
 all_lawful (s ∷ ss) = (lawful_step s, all_lawful ss)
 

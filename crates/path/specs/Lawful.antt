@@ -1,6 +1,6 @@
 -- The steps and paths that there can be.
 use Rattle.std.specs.Prelude.{◌≤◌, List, length}
-use Rattle.std.specs.List.{AllByRecursion as All}
+use Rattle.std.specs.List.{AllByRecursion}
 use Rattle.sheet_text.specs.Plain.{ProperName}
 use Rattle.path.specs.Meaning.{Downward, field, element}
 
@@ -12,4 +12,4 @@ Lawful (element i) = i ≤ 65534
 -- at most 8 steps, each of them lawful
 pub record LawfulPath (ds : List Downward) : Type 0 where
   pub few : length ds ≤ 8
-  pub each : All Lawful ds
+  pub each : AllByRecursion Lawful ds

@@ -1,5 +1,5 @@
 -- The rules of a sheet, each said by itself.
-use Rattle.std.specs.Prelude.{◌≡◌, ℕ, zero, suc, ◌+◌, ◌-◌, ◌^◌, ◌<◌, ◌≤◌, ◌⊎◌, List, length, get_or, take, drop, ◌≢◌, slice_index_or}
+use Rattle.std.specs.Prelude.{◌≡◌, ℕ, zero, suc, ◌+◌, ◌-◌, ◌^◌, ◌<◌, ◌≤◌, ◌⊎◌, List, length, take, drop, ◌≢◌, slice_index_or}
 use Rattle.sheet_text.specs.Plain.{ProperName}
 use Rattle.sheet_text.specs.declared.row.Row.{Row}
 use Rattle.sheet_text.specs.declared.row.Span.{Span}
@@ -54,16 +54,16 @@ pub record AsAsked (text : List ℕ) (rows : List Row) (k : ℕ) (r : Row) : Typ
 -- row a is field i, counted from 0, of those that a column begins
 abbrev pub FieldAt : List Row → Column → ℕ → ℕ → Type 0
 FieldAt rows c zero a = (c ≡ column.Number a) × (a < length rows)
-FieldAt rows c (suc i) a = (b : ℕ) × ((c ≡ column.Number b) × (b < length rows) × FieldAt rows (get_or rows b no_row).two i a)
+FieldAt rows c (suc i) a = (b : ℕ) × ((c ≡ column.Number b) × (b < length rows) × FieldAt rows (slice_index_or rows b no_row).two i a)
 
 -- the name of a row
 abbrev pub name_at : List ℕ → List Row → ℕ → List ℕ
-name_at text rows a = name_in text (get_or rows a no_row).name
+name_at text rows a = name_in text (slice_index_or rows a no_row).name
 
 -- no two fields of the record in row k have one name
 abbrev pub NamesDiffer : List ℕ → List Row → ℕ → Type 0
 NamesDiffer text rows k =
-    (i j a b : ℕ) → i < j → FieldAt rows (get_or rows k no_row).one i a → FieldAt rows (get_or rows k no_row).one j b → name_at text rows a ≢ name_at text rows b
+    (i j a b : ℕ) → i < j → FieldAt rows (slice_index_or rows k no_row).one i a → FieldAt rows (slice_index_or rows k no_row).one j b → name_at text rows a ≢ name_at text rows b
 
 -- rows over a text keep every rule of a sheet
 pub record Keeps (text : List ℕ) (rows : List Row) : Type 0 where

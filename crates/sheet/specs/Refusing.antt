@@ -1,5 +1,5 @@
 -- What a refusal of rows says about them.
-use Rattle.std.specs.Prelude.{◌≡◌, ℕ, ◌+◌, ◌<◌, ◌≤◌, ◌⊎◌, List, length, get_or, slice_index_or}
+use Rattle.std.specs.Prelude.{◌≡◌, ℕ, ◌+◌, ◌<◌, ◌≤◌, ◌⊎◌, List, length, slice_index_or}
 use Rattle.sheet_text.specs.declared.refusal.Reason.{Reason}
 use Rattle.sheet_text.specs.declared.refusal.Reason.TheVariants as reason
 use Rattle.sheet_text.specs.declared.row.Row.{Row}
@@ -23,8 +23,8 @@ pub record NameTwice (text : List ℕ) (rows : List Row) (k : ℕ) : Type 0 wher
   pub a : ℕ
   pub b : ℕ
   pub before : i < j
-  pub first : FieldAt rows (get_or rows k no_row).one i a
-  pub second : FieldAt rows (get_or rows k no_row).one j b
+  pub first : FieldAt rows (slice_index_or rows k no_row).one i a
+  pub second : FieldAt rows (slice_index_or rows k no_row).one j b
   pub same : name_at text rows a ≡ name_at text rows b
 
 -- row k is a type that is more than eight deep
