@@ -1,4 +1,2 @@
-pub mod Decimal
 pub mod Numerals
-pub mod Appends
 pub mod Filling
