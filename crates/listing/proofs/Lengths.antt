@@ -7,7 +7,7 @@ use Rattle.cells.specs.Refusals.{bad_pair}
 use Rattle.cells.proofs.Faults.{fault_within}
 use Rattle.input.specs.Parts.{capture_text}
 use Rattle.input.proofs.Cuts.{capture_short}
-use Rattle.line.proofs.Decimal.{length_decimal_few}
+use Rattle.std.proofs.lemmas.Fmt.{length-decimal-le}
 use Rattle.listing.specs.Parts.{bytes_text, part_of}
 use Rattle.listing.specs.Rows.{behind_comma, rest_text, told_text}
 use Rattle.listing.specs.Lines.{laid_header, fault_header, fault, lines_of, ended, whole_text, of_message}
@@ -20,6 +20,9 @@ use Rattle.sheet_text.specs.declared.row.Row.{Row}
 use Rattle.sheet.specs.Readings.{Wrong}
 use Rattle.sheet.specs.Refusing.{Refused}
 use Rattle.listing.proofs.Shares.{length_cells}
+
+few : (n : ℕ) → n < 2 ^ 64 → length (decimal n) ≤ 20
+few n h = length-decimal-le 20 n (omega arith) (omega arith) h
 
 bytes_long : (cs : List Cell) → length (bytes_text cs) ≤ 2 * length cs + 1
 bytes_long [] = omega arith
@@ -36,8 +39,8 @@ rest_long cs k h l =
     omega (
       arith,
       part_long cs k w,
-      length_decimal_few k h,
-      length_decimal_few w (omega arith),
+      few k h,
+      few w (omega arith),
       length-append (behind_comma (decimal k)) (behind_comma (decimal w) ++ part),
       length-append (behind_comma (decimal w)) part,
     )
@@ -46,7 +49,7 @@ rest_long cs k h l =
 pair_long : (p : ℕ) → p < 2 ^ 64 → length (told_text (bad_pair p)) ≤ 60
 pair_long p h =
     let end = decimal p ++ codes ",-,-,-" in
-    omega (arith, length_decimal_few 32 (omega arith), length_decimal_few p h, length-append (decimal 32) (codes ",-,-," ++ end), length-append (decimal p) (codes ",-,-,-"))
+    omega (arith, few 32 (omega arith), few p h, length-append (decimal 32) (codes ",-,-," ++ end), length-append (decimal p) (codes ",-,-,-"))
 
 two_long : (a b : List ℕ) → length (whole_text (a ∷ (b ∷ []))) ≡ length a + length b + 2
 two_long a b =
@@ -81,8 +84,8 @@ sheet_long e h =
     omega (
       arith,
       two_long fault_header (told_text (sheet_told e)),
-      length_decimal_few n (omega (arith, small_number e.reason)),
-      length_decimal_few e.line h,
+      few n (omega (arith, small_number e.reason)),
+      few e.line h,
       length-append (decimal n) (44 ∷ end),
       length-append (decimal e.line) (codes ",-,-,-,-,-"),
     )

@@ -1,5 +1,5 @@
 pub mod Joins
+pub mod Pieces
 pub mod Shares
-pub mod Numbered
 pub mod Wholes
 pub mod Lengths

@@ -1,3 +1,5 @@
 pub mod Parts
 pub mod Rows
 pub mod Lines
+pub mod Sinks
+pub mod Laws

@@ -2,6 +2,7 @@
 #![tactic(auto)]
 
 ghost use Rattle.std.specs.Prelude.{◌≡◌, ◌≤◌, length};
+ghost use Rattle.line.specs.Fills.{Appends};
 ghost use Rattle.line.specs.Text.{Appended};
 ghost use Rattle.cells.specs.Captured.{opened};
 ghost use Rattle.sheet_text.specs.Rows.{laid as in_table};
@@ -21,14 +22,14 @@ mod found;
 mod lines;
 mod part;
 mod rows;
+mod sink;
 
 // No listing is longer.
 pub const LISTING_MAX: usize = 262_144;
 
 // Appends the listing of the message in a capture, or refuses and changes nothing.
 fn write_message(capture: &[u8], out: &mut Line<'_>) -> Result<(), Full>
-    ensures value { Appended out.old (whole_text (lines_of (of_message (opened capture.now)))) result out.new }
-    ensures lender { out.new.places.ghost_name ≡ out.old.places.ghost_name }
+    ensures { Appends out.old (whole_text (lines_of (of_message (opened capture.now)))) result out.new }
 {
     match Capture::open(capture) {
         Ok(source) => {

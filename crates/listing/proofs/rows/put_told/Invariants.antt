@@ -1,0 +1,7 @@
+use Rattle.std.proofs.Common.{take}
+use Rattle.std.specs.List.{flat_map}
+use Rattle.listing.specs.Rows.{behind_comma, value_text}
+use Rattle.listing.proofs.rows.put_told.Given as goal
+
+abbrev pub invariant-loop-value : goal.invariant-loop-value
+invariant-loop-value g l = g.W.Sink.took l.initial.out (flat_map (λ v. behind_comma (value_text v)) (take l.value-index l.value-items)) l.out

@@ -1,0 +1,71 @@
+// Places that text goes to, piece after piece.
+ghost use Rattle.std.specs.Prelude.{ℕ, List, decimal};
+ghost use Rattle.line.specs.Digits.{hex_text};
+ghost use Rattle.line.specs.Fills.{Fills};
+ghost use Rattle.listing.specs.Sinks.{Joins, Counted};
+ghost use Rattle.listing.specs.Laws.{fills_joins, counted_joins};
+
+use line::{Line, count_digits};
+
+// `fmt::Write` does not serve: it says nothing of a place that is full, and a full line stays as it was.
+pub(crate) trait Sink {
+    // what a place becomes by a text
+    ghost took: { Self → List ℕ → Self → Type 0 };
+
+    fn text(&mut self, bytes: &[u8])
+        ensures { took self.old bytes.now self.new };
+
+    // Takes `n` in decimal.
+    fn number(&mut self, n: u64)
+        ensures { took self.old (decimal n) self.new };
+
+    // Takes two hexadecimal digits.
+    fn hex(&mut self, byte: u8)
+        ensures { took self.old (hex_text byte) self.new };
+
+    // what each `impl` must prove
+    ghost joins: { Joins took };
+}
+
+// A line takes what it has room for all of.
+impl Sink for Line<'_> {
+    ghost took = { Fills };
+
+    ghost joins = { fills_joins };
+
+    fn text(&mut self, bytes: &[u8]) {
+        let _ = self.push_text(bytes);
+    }
+
+    fn number(&mut self, n: u64) {
+        let _ = self.push_number(n);
+    }
+
+    fn hex(&mut self, byte: u8) {
+        let _ = self.push_hex(byte);
+    }
+}
+
+// A count of the bytes, and no place for them.
+#[derive(Clone, Copy)]
+pub(crate) struct Size {
+    pub bytes: usize,
+}
+
+impl Sink for Size {
+    ghost took = { λ s text t. Counted s.bytes text t.bytes };
+
+    ghost joins = { counted_joins (λ s. s.bytes) };
+
+    fn text(&mut self, bytes: &[u8]) {
+        self.bytes = self.bytes.saturating_add(bytes.len());
+    }
+
+    fn number(&mut self, n: u64) {
+        self.bytes = self.bytes.saturating_add(count_digits(n));
+    }
+
+    fn hex(&mut self, _byte: u8) {
+        self.bytes = self.bytes.saturating_add(2);
+    }
+}
