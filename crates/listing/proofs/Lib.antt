@@ -1,4 +1,3 @@
-pub mod Joins
 pub mod Pieces
 pub mod Shares
 pub mod Wholes

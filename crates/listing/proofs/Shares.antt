@@ -7,7 +7,7 @@ use Rattle.cells.specs.Cells.{read_at, answered, cell_read}
 use Rattle.cells.specs.declared.cell.Cell.{Cell}
 use Rattle.cells.specs.declared.cell.Cell.TheVariants.{Byte, Lost}
 use Rattle.listing.specs.Parts.{cell_text, answer_text}
-use Rattle.listing.proofs.Joins.{part_more}
+use Rattle.listing.proofs.Pieces.{part_more}
 
 abbrev blank : Cell
 blank = Byte 0
@@ -16,7 +16,7 @@ answer_cell : (c : Cell) → answer_text (cell_read c) ≡ cell_text c
 answer_cell (Byte b) = refl
 answer_cell (Lost m) = refl
 
-pub answer_at : (cs : List Cell) (k : ℕ) → k < length cs → answer_text (read_at cs k) ≡ cell_text (get_or cs k blank)
+answer_at : (cs : List Cell) (k : ℕ) → k < length cs → answer_text (read_at cs k) ≡ cell_text (get_or cs k blank)
 answer_at cs k h = ap (λ o. answer_text (answered k o)) (slice_get-get_or cs k blank h) ∙ answer_cell (get_or cs k blank)
 
 -- one cell more of a part that begins at p

@@ -25,6 +25,7 @@ impl<'s, S: Source> Part<'s, S> {
             out.text(b"-");
             return;
         }
+        // A source has no slice to go over: it is read place by place.
         for k in self.place..end {
             put_cell(out, self.source.read(k));
         }
