@@ -1,5 +1,5 @@
 -- No listing is longer than its buffer.
-use Rattle.std.proofs.Common.{◌≡◌, ℕ, ◌+◌, ◌-◌, ◌*◌, ◌^◌, ◌<◌, ◌≤◌, List, [], ◌∷◌, ◌++◌, length, drop, Some, None, codes, decimal, Option, refl, ap, ◌∙◌, inl, inr, arith, length-append, length-drop, length-take}
+use Rattle.std.proofs.Common.{◌≡◌, ℕ, ◌+◌, ◌-◌, ◌*◌, ◌^◌, ◌<◌, ◌≤◌, List, [], ◌∷◌, length, drop, Some, None, decimal, Option, refl, ap, inl, inr, arith, length-append, length-drop, length-take}
 use Rattle.cells.specs.declared.cell.Cell.{Cell}
 use Rattle.cells.specs.Captured.{opened, opened_by, bad_from, capture_cells}
 use Rattle.cells.specs.Laws.{capture_length}
@@ -9,8 +9,8 @@ use Rattle.input.specs.Parts.{capture_text}
 use Rattle.input.proofs.Cuts.{capture_short}
 use Rattle.std.proofs.lemmas.Fmt.{length-decimal-le}
 use Rattle.listing.specs.Parts.{bytes_text, part_of}
-use Rattle.listing.specs.Rows.{behind_comma, rest_text, told_text}
-use Rattle.listing.specs.Lines.{laid_header, fault_header, fault, lines_of, ended, whole_text, of_message}
+use Rattle.listing.specs.Rows.{rest_text, told_text}
+use Rattle.listing.specs.Lines.{laid_header, fault_header, fault, lines_of, whole_text, of_message}
 use Rattle.sheet_text.specs.LineFaults.{StopsAt, LinesRefused}
 use Rattle.sheet_text.specs.Refusals.{number_of, sheet_told}
 use Rattle.sheet_text.specs.declared.refusal.Reason.{Reason}
@@ -35,26 +35,14 @@ part_long cs p w =
 rest_long : (cs : List Cell) (k : ℕ) → k < 2 ^ 64 → length cs < 2 ^ 64 → length (rest_text cs k) ≤ 2 * length cs + 60
 rest_long cs k h l =
     let w = length cs - k in
-    let part = behind_comma (bytes_text (part_of cs k w)) in
-    omega (
-      arith,
-      part_long cs k w,
-      few k h,
-      few w (omega arith),
-      length-append (behind_comma (decimal k)) (behind_comma (decimal w) ++ part),
-      length-append (behind_comma (decimal w)) part,
-    )
+    simp length-append (omega (arith, part_long cs k w, few k h, few w (omega arith)))
 
 -- a fault at a place of a capture
 pair_long : (p : ℕ) → p < 2 ^ 64 → length (told_text (bad_pair p)) ≤ 60
-pair_long p h =
-    let end = decimal p ++ codes ",-,-,-" in
-    omega (arith, few 32 (omega arith), few p h, length-append (decimal 32) (codes ",-,-," ++ end), length-append (decimal p) (codes ",-,-,-"))
+pair_long p h = simp length-append (omega (arith, few 32 (omega arith), few p h))
 
 two_long : (a b : List ℕ) → length (whole_text (a ∷ (b ∷ []))) ≡ length a + length b + 2
-two_long a b =
-    length-append (ended a) (ended b ++ [])
-    ∙ omega (arith, length-append a (10 ∷ []), length-append (ended b) [], length-append b (10 ∷ []))
+two_long a b = omega (arith, length-append {A = ℕ})
 
 opened_long : (t : List ℕ) (o : Option ℕ) → bad_from 0 t ≡ o → length t ≤ 60000 → length (whole_text (lines_of (of_message (opened_by o (capture_cells t))))) ≤ 262144
 opened_long t None e h =
@@ -80,15 +68,7 @@ small_number reason.Depth = omega arith
 pub sheet_long : (e : SheetRefusal) → e.line < 2 ^ 64 → length (whole_text (lines_of (fault (sheet_told e)))) ≤ 262144
 sheet_long e h =
     let n = number_of e.reason in
-    let end = decimal e.line ++ codes ",-,-,-,-,-" in
-    omega (
-      arith,
-      two_long fault_header (told_text (sheet_told e)),
-      few n (omega (arith, small_number e.reason)),
-      few e.line h,
-      length-append (decimal n) (44 ∷ end),
-      length-append (decimal e.line) (codes ",-,-,-,-,-"),
-    )
+    simp length-append (omega (arith, few n (omega (arith, small_number e.reason)), few e.line h))
 
 -- a refusal tells one of the first 258 lines
 stop_line : (text : List ℕ) (places : ℕ) (rows : List Row) (e : Reason) (line : ℕ) → StopsAt text places rows e line → line ≤ 258

@@ -38,4 +38,4 @@ two (Lost m) = refl
 
 pub length_cells : (cs : List Cell) → length (flat_map cell_text cs) ≡ 2 * length cs
 length_cells [] = refl
-length_cells (c ∷ cs) = length-append (cell_text c) (flat_map cell_text cs) ∙ omega (arith, two c, length_cells cs)
+length_cells (c ∷ cs) = omega (arith, two c, length_cells cs, length-append {A = ℕ})
