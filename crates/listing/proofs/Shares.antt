@@ -1,5 +1,5 @@
 -- Parts of the cells.
-use Rattle.std.proofs.Common.{◌≡◌, ℕ, ◌+◌, ◌-◌, ◌*◌, ◌<◌, ◌≤◌, List, [], ◌∷◌, ◌++◌, length, get_or, take, drop, sym, refl, ap, ◌∙◌, arith, length-append}
+use Rattle.std.proofs.Common.{◌≡◌, ℕ, ◌+◌, ◌-◌, ◌*◌, ◌<◌, ◌≤◌, List, [], ◌∷◌, ◌++◌, length, get_or, take, drop, refl, ap, ◌∙◌, arith, length-append}
 use Rattle.std.specs.List.{flat_map}
 use Rattle.std.proofs.lemmas.List.{length-drop, get_or-drop}
 use Rattle.std.proofs.lemmas.Option.{slice_get-get_or}
@@ -23,14 +23,12 @@ answer_at cs k h = ap (λ o. answer_text (answered k o)) (slice_get-get_or cs k 
 pub cell_more : (cs : List Cell) (p k : ℕ) → p ≤ k → k < length cs
     → flat_map cell_text (take (k - p) (drop p cs)) ++ answer_text (read_at cs k) ≡ flat_map cell_text (take (k + 1 - p) (drop p cs))
 cell_more cs p k a h =
-    let l = length-drop p cs in
     let i = k - p in
     let e : p + i ≡ k = omega arith in
     let f : i + 1 ≡ k + 1 - p = omega arith in
-    ap (λ t. flat_map cell_text (take i (drop p cs)) ++ t)
-    (answer_at cs k h ∙ ap (λ j. cell_text (get_or cs j blank)) (sym e) ∙ ap cell_text (sym (get_or-drop p cs i blank)))
-    ∙ part_more cell_text (drop p cs) i blank (omega arith)
-    ∙ ap (λ j. flat_map cell_text (take j (drop p cs))) f
+    let more = part_more cell_text (drop p cs) i blank (omega (arith, length-drop p cs)) in
+    let at = get_or-drop p cs i blank ∙ ap (λ j. get_or cs j blank) e in
+    rw (answer_at cs k h, ← at, ← f) more
 
 two : (c : Cell) → length (cell_text c) ≡ 2
 two (Byte b) = refl
