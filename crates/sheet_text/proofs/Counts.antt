@@ -3,7 +3,7 @@ use Rattle.std.proofs.Common.{◌≡◌, ℕ, zero, suc, ◌+◌, ◌≤◌, min
 use Rattle.sheet_text.specs.Rows.{Read, row_at, refused, with_row, lines_from, headed, lines_of}
 use Rattle.sheet_text.specs.declared.refusal.Reason.{Reason}
 use Rattle.sheet_text.specs.declared.refusal.Reason.TheVariants as reason
-use Rattle.sheet_text.specs.declared.rows.Stated.{Stated}
+use Rattle.sheet_text.specs.Rows.{Stated}
 
 -- the answer counts the rows, k of them ahead
 abbrev pub Counts : ℕ → Read → Type 0
@@ -45,7 +45,7 @@ row_few : (room k : ℕ) (r : Result Stated Reason) (later : ℕ → Read) → (
 row_few room k (Err e) later each = omega arith
 row_few room k (Ok s) later each = let l = each s.next in omega arith
 
-lines_few : (room : ℕ) (text : List ℕ) (at k : ℕ) → length (lines_from room text at k).rows ≤ room
+pub lines_few : (room : ℕ) (text : List ℕ) (at k : ℕ) → length (lines_from room text at k).rows ≤ room
 unfolding lines_from
 lines_few zero text at k = either_few 0 (leb (length text) at) _ _ (omega arith) (omega arith)
 lines_few (suc room) text at k =

@@ -13,7 +13,7 @@ use Rattle.sheet_text.specs.declared.refusal.Reason.{Reason}
 use Rattle.sheet_text.specs.declared.refusal.Reason.TheVariants as reason
 use Rattle.sheet_text.specs.declared.refusal.SheetRefusal.{SheetRefusal}
 use Rattle.sheet_text.specs.declared.row.Row.{Row}
-use Rattle.sheet_text.specs.declared.rows.Stated.{Stated}
+use Rattle.sheet_text.specs.Rows.{Stated}
 use Rattle.sheet_text.specs.declared.word.Word.{Word}
 use Rattle.sheet_text.proofs.Reading.{lines_end, lines_full, lines_row}
 use Rattle.sheet_text.proofs.Spelled.{spelled_words}

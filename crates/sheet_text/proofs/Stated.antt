@@ -15,7 +15,7 @@ use Rattle.sheet_text.specs.declared.refusal.Reason.TheVariants as reason
 use Rattle.sheet_text.specs.declared.refusal.SheetRefusal.{SheetRefusal}
 use Rattle.sheet_text.specs.declared.row.Row.{Row}
 use Rattle.sheet_text.specs.declared.row.Column.{Column}
-use Rattle.sheet_text.specs.declared.rows.Stated.{Stated}
+use Rattle.sheet_text.specs.Rows.{Stated}
 use Rattle.sheet_text.specs.declared.word.Word.{Word}
 use Rattle.sheet_text.proofs.Counts.{read_counts, read_few}
 use Rattle.sheet_text.proofs.Lines.{part_ended}

@@ -2,6 +2,7 @@ pub mod Chars
 pub mod Values
 pub mod Table
 pub mod Lines
+pub mod Columns
 pub mod Refusals
 pub mod Rows
 pub mod Plain

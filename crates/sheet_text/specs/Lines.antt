@@ -21,8 +21,9 @@ pub record Placed : Type 0 where
   pub at : ℕ
   pub next : ℕ
 
-abbrev pub viewed : Part → Placed
-viewed p = record { value = meaning p.token; at = p.at; next = p.next }
+-- a part, where a cursor then stands at next
+abbrev pub viewed : ℕ → Part → Placed
+viewed next p = record { value = meaning p.token; at = p.at; next = next }
 
 abbrev pub begins : ℕ → List ℕ → Bool
 begins stop [] = false
@@ -59,15 +60,16 @@ pub record Held : Type 0 where
   pub three : Column
   pub next : ℕ
 
-abbrev pub line_view : Line → Held
-line_view l = record {
+-- a line, where a cursor then stands at next
+abbrev pub line_view : ℕ → Line → Held
+line_view next l = record {
   number = meaning l.number;
   word = meaning l.word;
   name = l.name;
   one = l.one;
   two = l.two;
   three = l.three;
-  next = l.next;
+  next = next;
 }
 
 -- what follows from a value that is there

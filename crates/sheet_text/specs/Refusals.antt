@@ -1,5 +1,5 @@
 -- The refusals of a sheet as they are told.
-use Rattle.std.specs.Prelude.{ℕ, Some, None}
+use Rattle.std.specs.Prelude.{ℕ, ◌+◌, Some, None}
 use Rattle.told.specs.declared.Told.{Told}
 use Rattle.sheet_text.specs.declared.refusal.Reason.{Reason}
 use Rattle.sheet_text.specs.declared.refusal.Reason.TheVariants as reason
@@ -26,3 +26,7 @@ sheet_told e = record {
   lost = None;
   layers = None;
 }
+
+-- the refusal of the line that states row k
+abbrev pub at_row : Reason → ℕ → SheetRefusal
+at_row e k = record { reason = e; line = k + 2 }

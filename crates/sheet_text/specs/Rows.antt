@@ -8,7 +8,6 @@ use Rattle.sheet_text.specs.declared.refusal.Reason.{Reason}
 use Rattle.sheet_text.specs.declared.refusal.Reason.TheVariants as reason
 use Rattle.sheet_text.specs.declared.refusal.SheetRefusal.{SheetRefusal}
 use Rattle.sheet_text.specs.declared.row.Row.{Row}
-use Rattle.sheet_text.specs.declared.rows.Stated.{Stated}
 use Rattle.sheet_text.specs.declared.word.Word.{Word}
 
 abbrev pub is_number : ℕ → Value → Bool
@@ -21,6 +20,16 @@ abbrev pub word_in : Value → Option Word
 word_in (name bs) = spelled words bs
 word_in (number n) = None
 word_in blank = None
+
+-- a row that a line states, and where the next line begins
+pub record Stated : Type 0 where
+  pub row : Row
+  pub next : ℕ
+
+-- what a cursor answered that then stands at a place
+abbrev pub stated : ℕ → Result Row Reason → Result Stated Reason
+stated next (Ok r) = Ok (record { row = r; next = next })
+stated next (Err e) = Err e
 
 abbrev pub row_with : Held → Option Word → Result Stated Reason
 row_with h None = Err reason.Word

@@ -1,6 +1,7 @@
 // The text of format sheets: values, words, lines, and the rows that the lines state.
 #![tactic(auto)]
 
+mod cursor;
 mod line;
 mod refusal;
 mod row;

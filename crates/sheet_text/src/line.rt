@@ -1,43 +1,24 @@
-// A line of a sheet: six values with commas between, and a line feed.
-ghost use Rattle.std.specs.Prelude.{◌≡◌, ◌+◌, ◌^◌, ◌<◌, ◌≤◌, true, length, drop, IfSome};
-ghost use Rattle.std.specs.Option.{option_map};
-ghost use Rattle.sheet_text.specs.Lines.{is_stop, part_len, viewed, begins, part_from, part_at, column_of, line_view, line_at};
+// What a line of a sheet holds.
+ghost use Rattle.std.specs.Prelude.{◌≡◌, ℕ, Some};
+ghost use Rattle.sheet_text.specs.Values.{meaning};
+ghost use Rattle.sheet_text.specs.Lines.{column_from, line_view};
+ghost use Rattle.sheet_text.specs.Rows.{stated, row_from};
 
-use super::row::{Column, Span};
-use super::token::{Token, read_token};
+use super::refusal::Reason;
+use super::row::{Column, Row, Span};
+use super::token::Token;
 
-// Whether the byte ends a value.
-fn ends_part(b: u8) -> bool
-    ensures { result ≡ is_stop b }
-{
-    matches!(b as char, ',' | '\n')
-}
-
-// How many bytes stand ahead of the first comma or line feed.
-fn part_len(rest: &[u8]) -> usize
-    ensures is { result ≡ part_len rest.now }
-    ensures within { result ≤ length rest.now }
-{
-    for (i, b) in rest.iter().enumerate() {
-        if ends_part(*b) {
-            return i;
-        }
-    }
-    rest.len()
-}
-
-// A value of a line: where it stands, and where the next one does.
+// A value of a line, and where it stands.
 #[derive(Clone, Copy)]
-pub struct Part<'a> {
-    pub token: Token<'a>,
+pub struct Part<'t> {
+    pub token: Token<'t>,
     pub at: usize,
-    pub next: usize,
 }
 
 impl Part<'_> {
     // The value as a row keeps it.
-    fn column(&self) -> Column
-        ensures { result ≡ column_of (viewed self.now) }
+    pub fn column(self) -> Column
+        ensures { result ≡ column_from self.entry.at (meaning self.entry.token) }
     {
         match self.token {
             Token::Name(bytes) => Column::Name(Span {
@@ -50,72 +31,32 @@ impl Part<'_> {
     }
 }
 
-// Whether byte n is there and is b.
-fn byte_is(bytes: &[u8], n: usize, b: u8) -> bool
-    ensures is { result ≡ begins b (drop n bytes.now) }
-    ensures within { result ≡ true → n < length bytes.now }
-{
-    n < bytes.len() && bytes[n] == b
-}
-
-// The value at the front of `rest`, which stands at `at`, if it is one and the byte `stop` ends it.
-fn front_part(rest: &[u8], at: usize, stop: u8) -> Option<Part<'_>>
-    requires { at + length rest.now < 2 ^ 64 }
-    ensures is { option_map viewed result ≡ part_from rest.now at stop }
-    ensures within { IfSome result (λ p. p.next ≤ at + length rest.now) }
-{
-    let n = part_len(rest);
-    if !byte_is(rest, n, stop) {
-        return None;
-    }
-    let token = read_token(&rest[0..n])?;
-    Some(Part {
-        token,
-        at,
-        next: at + n + 1,
-    })
-}
-
-// The value that begins at `at`, if it is one and the byte `stop` ends it.
-fn read_part(text: &[u8], at: usize, stop: u8) -> Option<Part<'_>>
-    requires { at ≤ length text.now }
-    ensures is { option_map viewed result ≡ part_at text.now at stop }
-    ensures within { IfSome result (λ p. p.next ≤ length text.now) }
-{
-    front_part(&text[at..], at, stop)
-}
-
-// What a line holds, and where the next one begins.
+// The six values of a line, the last four as a row keeps them.
 #[derive(Clone, Copy)]
-pub struct Line<'a> {
-    pub number: Token<'a>,
-    pub word: Token<'a>,
+pub struct Line<'t> {
+    pub number: Token<'t>,
+    pub word: Token<'t>,
     pub name: Column,
     pub one: Column,
     pub two: Column,
     pub three: Column,
-    pub next: usize,
 }
 
-// The line that begins at `at`, if it is six values with commas between and a line feed.
-pub(crate) fn read_line(text: &[u8], at: usize) -> Option<Line<'_>>
-    requires { at ≤ length text.now }
-    ensures is { option_map line_view result ≡ line_at text.now at }
-    ensures within { IfSome result (λ l. l.next ≤ length text.now) }
-{
-    let number = read_part(text, at, b',')?;
-    let word = read_part(text, number.next, b',')?;
-    let name = read_part(text, word.next, b',')?;
-    let one = read_part(text, name.next, b',')?;
-    let two = read_part(text, one.next, b',')?;
-    let three = read_part(text, two.next, b'\n')?;
-    Some(Line {
-        number: number.token,
-        word: word.token,
-        name: name.column(),
-        one: one.column(),
-        two: two.column(),
-        three: three.column(),
-        next: three.next,
-    })
+impl Line<'_> {
+    // The row that the line states as row k.
+    pub fn row(self, k: usize) -> Result<Row, Reason>
+        ensures { (next : ℕ) → stated next result ≡ row_from k (Some (line_view next self.entry)) }
+    {
+        if !self.number.is_number(k) {
+            return Err(Reason::Line);
+        }
+        let word = self.word.word().ok_or(Reason::Word)?;
+        Ok(Row {
+            word,
+            name: self.name,
+            one: self.one,
+            two: self.two,
+            three: self.three,
+        })
+    }
 }

@@ -1,4 +1,7 @@
 // The rows of a sheet as its table keeps them.
+ghost use Rattle.std.specs.Prelude.{◌≡◌};
+ghost use Rattle.sheet_text.specs.Columns.{number_in, span_in};
+
 use super::word::{TypeWord, Word};
 
 // A part of the sheet's text.
@@ -14,6 +17,28 @@ pub enum Column {
     Blank,
     Number(u64),
     Name(Span),
+}
+
+impl Column {
+    // The number that the column holds, if it holds one.
+    pub fn number(self) -> Option<u64>
+        ensures { result ≡ number_in self }
+    {
+        match self {
+            Column::Number(n) => Some(n),
+            Column::Blank | Column::Name(_) => None,
+        }
+    }
+
+    // Where the name stands that the column holds, if it holds one.
+    pub fn name(self) -> Option<Span>
+        ensures { result ≡ span_in self }
+    {
+        match self {
+            Column::Name(span) => Some(span),
+            Column::Blank | Column::Number(_) => None,
+        }
+    }
 }
 
 // A row of a sheet: its word, and its columns as its line states them.

@@ -1,65 +1,13 @@
 // Reads the lines of a sheet into a row table.
-ghost use Rattle.std.specs.Prelude.{◌≡◌, ◌<◌, ◌≤◌, true, length, IfOk};
+ghost use Rattle.std.specs.Prelude.{◌≡◌, ◌<◌, ◌≤◌, true, length, min, IfOk};
 ghost use Rattle.told.specs.Answers.{as_told};
 ghost use Rattle.sheet_text.specs.Refusals.{sheet_told};
-ghost use Rattle.sheet_text.specs.Rows.{is_number, word_in, row_at, headed, lines_of, further_lines, laid};
+ghost use Rattle.sheet_text.specs.Rows.{headed, lines_of, lines_from, laid};
 ghost use Rattle.sheet_text.specs.LineFaults.{ReadsLines};
-ghost use Rattle.sheet_text.specs.Values.{meaning};
 
-use super::line::read_line;
+use super::cursor::Cursor;
 use super::refusal::{Reason, SheetRefusal};
 use super::row::Row;
-use super::token::Token;
-use super::word::{Word, read_word};
-
-// A row that a line states, and where the next line begins.
-#[derive(Clone, Copy)]
-pub struct Stated {
-    pub row: Row,
-    pub next: usize,
-}
-
-fn is_number(token: Token<'_>, n: usize) -> bool
-    ensures { result ≡ is_number n (meaning token.entry) }
-{
-    match token {
-        Token::Number(m) => m == n as u64,
-        Token::Name(_) | Token::Blank => false,
-    }
-}
-
-fn word_of(token: Token<'_>) -> Option<Word>
-    ensures { result ≡ word_in (meaning token.entry) }
-{
-    match token {
-        Token::Name(bytes) => read_word(bytes),
-        Token::Number(_) | Token::Blank => None,
-    }
-}
-
-// The row that the line at `at` states as row k.
-fn read_row(text: &[u8], at: usize, k: usize) -> Result<Stated, Reason>
-    requires { at ≤ length text.now }
-    ensures is { result ≡ row_at text.now at k }
-    ensures within { IfOk result (λ s. s.next ≤ length text.now) }
-{
-    let line = read_line(text, at).ok_or(Reason::Line)?;
-    if !is_number(line.number, k) {
-        return Err(Reason::Line);
-    }
-    let word = word_of(line.word).ok_or(Reason::Word)?;
-    let row = Row {
-        word,
-        name: line.name,
-        one: line.one,
-        two: line.two,
-        three: line.three,
-    };
-    Ok(Stated {
-        row,
-        next: line.next,
-    })
-}
 
 // The first line of every sheet.
 const HEADER: &[u8] = b"row,word,name,one,two,three\n";
@@ -83,15 +31,6 @@ pub fn read_rows(text: &[u8], table: &mut [Row]) -> Result<usize, SheetRefusal>
     ensures within { IfOk result (λ n. n ≤ length table.old) }
     ensures reads { ReadsLines text.now table.old table.new result }
 {
-    read_text(text, table)
-}
-
-// Reads the first line, and then the others.
-fn read_text(text: &[u8], table: &mut [Row]) -> Result<usize, SheetRefusal>
-    ensures result { result ≡ (lines_of text.now (length table.old)).result }
-    ensures rows { table.new ≡ laid (lines_of text.now (length table.old)).rows table.old }
-    ensures within { IfOk result (λ n. n ≤ length table.old) }
-{
     if !has_header(text) {
         return Err(SheetRefusal {
             reason: Reason::Header,
@@ -104,37 +43,27 @@ fn read_text(text: &[u8], table: &mut [Row]) -> Result<usize, SheetRefusal>
             line: 1,
         });
     }
-    read_lines(text, table)
+    read_lines(Cursor::new(text, HEADER.len()), table)
 }
 
-// Reads the lines after the first.
-fn read_lines(text: &[u8], table: &mut [Row]) -> Result<usize, SheetRefusal>
-    requires { 28 ≤ length text.now }
-    ensures result { result ≡ (further_lines text.now (length table.old)).result }
-    ensures rows { table.new ≡ laid (further_lines text.now (length table.old)).rows table.old }
+// Reads the lines from a place on.
+fn read_lines(mut lines: Cursor<'_>, table: &mut [Row]) -> Result<usize, SheetRefusal>
+    ensures result { result ≡ (lines_from (min (length table.old) 256) lines.entry.text.now lines.entry.at 0).result }
+    ensures rows { table.new ≡ laid (lines_from (min (length table.old) 256) lines.entry.text.now lines.entry.at 0).rows table.old }
     ensures within { IfOk result (λ n. n ≤ length table.old) }
 {
     let room = table.len().min(MAX_ROWS);
-    let mut at = HEADER.len();
-    let mut k = 0;
-    while at < text.len() {
-        if k == room {
-            return Err(SheetRefusal {
-                reason: Reason::Count,
-                line: k + 2,
-            });
+    for (k, place) in table[..room].iter_mut().enumerate() {
+        if lines.is_done() {
+            return Ok(k);
         }
-        match read_row(text, at, k) {
-            Ok(stated) => {
-                table[k] = stated.row;
-                at = stated.next;
-                k += 1;
-            }
-            Err(reason) => return Err(SheetRefusal {
-                reason,
-                line: k + 2,
-            }),
-        }
+        *place = lines
+            .row(k)
+            .map_err(|reason| SheetRefusal::at_row(reason, k))?;
     }
-    Ok(k)
+    if lines.is_done() {
+        Ok(room)
+    } else {
+        Err(SheetRefusal::at_row(Reason::Count, room))
+    }
 }

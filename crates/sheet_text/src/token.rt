@@ -1,12 +1,15 @@
 // Values of a format sheet: a name, a whole number or a blank.
 ghost use Rattle.std.specs.Prelude.{◌≡◌, true};
 ghost use Rattle.std.specs.Option.{option_map};
-ghost use Rattle.sheet_text.specs.Chars.{class_of, leads, follows, is_name, name_bytes, digit_of};
+ghost use Rattle.sheet_text.specs.Chars.{class_of, leads, follows, is_name, digit_of};
 ghost use Rattle.sheet_text.specs.Plain.{ProperName};
+ghost use Rattle.sheet_text.specs.Rows.{is_number, word_in};
 ghost use Rattle.sheet_text.specs.Values.{meaning, value_of, number_of, digits_after};
 
+use super::word::{Word, read_word};
+
 // What a byte may be in a name.
-#[derive(Clone, Copy)]
+#[derive(Clone, Copy, PartialEq)]
 pub enum NameByte {
     Letter,
     Digit,
@@ -19,20 +22,14 @@ impl NameByte {
     fn leads(self) -> bool
         ensures { result ≡ leads self }
     {
-        match self {
-            NameByte::Letter => true,
-            NameByte::Digit | NameByte::Underscore | NameByte::Other => false,
-        }
+        self == NameByte::Letter
     }
 
     // Whether it may stand in a name after the first byte.
     fn follows(self) -> bool
         ensures { result ≡ follows self }
     {
-        match self {
-            NameByte::Letter | NameByte::Digit | NameByte::Underscore => true,
-            NameByte::Other => false,
-        }
+        self != NameByte::Other
     }
 }
 
@@ -55,37 +52,38 @@ pub enum Token<'a> {
     Blank,
 }
 
-// Whether each byte may stand in a name after its first.
-fn name_bytes(bytes: &[u8]) -> bool
-    ensures { result ≡ name_bytes bytes.now }
-{
-    for b in bytes {
-        if !name_byte(*b).follows() {
-            return false;
+impl Token<'_> {
+    // Whether it is the number n.
+    pub fn is_number(self, n: usize) -> bool
+        ensures { result ≡ is_number n (meaning self.entry) }
+    {
+        matches!(self, Token::Number(m) if m == n as u64)
+    }
+
+    // The word that it is, if it is one.
+    pub fn word(self) -> Option<Word>
+        ensures { result ≡ word_in (meaning self.entry) }
+    {
+        match self {
+            Token::Name(bytes) => read_word(bytes),
+            Token::Number(_) | Token::Blank => None,
         }
     }
-    true
 }
 
 // Whether the bytes are a name: a letter, then letters, digits or `_`, at most 16 in all.
+#[tactic(auto, using(crate::proofs::Plain::name_is, crate::proofs::Plain::name_made))]
 pub fn is_name(bytes: &[u8]) -> bool
     ensures is { result ≡ is_name bytes.now }
     ensures proper { result ≡ true → ProperName bytes.now }
     ensures every { ProperName bytes.now → result ≡ true }
 {
-    reads_name(bytes)
-}
-
-fn reads_name(bytes: &[u8]) -> bool
-    ensures { result ≡ is_name bytes.now }
-{
-    if bytes.len() > 16 {
-        return false;
+    match bytes {
+        [first, rest @ ..] => bytes.len() <= 16
+            && name_byte(*first).leads()
+            && rest.iter().all(|b| name_byte(*b).follows()),
+        [] => false,
     }
-    let [first, rest @ ..] = bytes else {
-        return false;
-    };
-    name_byte(*first).leads() && name_bytes(rest)
 }
 
 // The largest number of a sheet.
@@ -120,8 +118,7 @@ fn read_number(bytes: &[u8]) -> Option<u64>
     ensures { result ≡ number_of bytes.now }
 {
     match bytes {
-        [] => None,
-        [b'0', _, ..] => None,
+        [] | [b'0', _, ..] => None,
         _ => read_digits(bytes),
     }
 }
@@ -130,14 +127,9 @@ fn read_number(bytes: &[u8]) -> Option<u64>
 pub(crate) fn read_token(part: &[u8]) -> Option<Token<'_>>
     ensures { option_map meaning result ≡ value_of part.now }
 {
-    if let [b'-'] = part {
-        return Some(Token::Blank);
-    }
-    if is_name(part) {
-        return Some(Token::Name(part));
-    }
-    match read_number(part) {
-        Some(n) => Some(Token::Number(n)),
-        None => None,
+    match part {
+        [b'-'] => Some(Token::Blank),
+        _ if is_name(part) => Some(Token::Name(part)),
+        _ => Some(Token::Number(read_number(part)?)),
     }
 }

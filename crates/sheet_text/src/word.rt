@@ -1,6 +1,6 @@
 // The words of a format sheet, by families.
 ghost use Rattle.std.specs.Prelude.{◌≡◌, ◌≤◌};
-ghost use Rattle.sheet_text.specs.Table.{base_spelling, type_spelling, number_spelling, truth_spelling, step_spelling, spelling, spelled, words, width_of};
+ghost use Rattle.sheet_text.specs.Table.{base_spelling, spelling, spelled, words, width_of};
 
 // The words of base types.
 #[derive(Clone, Copy)]
@@ -70,26 +70,24 @@ pub enum Word {
 
 impl Base {
     // The text of the word in a sheet.
-    pub fn text(self) -> &'static [u8]
+    pub fn text(self) -> &'static str
         ensures { result.now ≡ base_spelling self }
     {
         match self {
-            Base::Bool => b"bool",
-            Base::Char => b"char",
-            Base::U8 => b"u8",
-            Base::U16 => b"u16",
-            Base::I16 => b"i16",
-            Base::U32 => b"u32",
-            Base::I32 => b"i32",
-            Base::Float => b"float",
-            Base::U64 => b"u64",
-            Base::I64 => b"i64",
-            Base::Double => b"double",
+            Base::Bool => "bool",
+            Base::Char => "char",
+            Base::U8 => "u8",
+            Base::U16 => "u16",
+            Base::I16 => "i16",
+            Base::U32 => "u32",
+            Base::I32 => "i32",
+            Base::Float => "float",
+            Base::U64 => "u64",
+            Base::I64 => "i64",
+            Base::Double => "double",
         }
     }
-}
 
-impl Base {
     // How many bytes a piece of it has.
     pub fn width(self) -> u8
         ensures is { result ≡ width_of self }
@@ -100,65 +98,6 @@ impl Base {
             Base::U16 | Base::I16 => 2,
             Base::U32 | Base::I32 | Base::Float => 4,
             Base::U64 | Base::I64 | Base::Double => 8,
-        }
-    }
-}
-
-impl TypeWord {
-    // The text of the word in a sheet.
-    fn text(self) -> &'static [u8]
-        ensures { result.now ≡ type_spelling self }
-    {
-        match self {
-            TypeWord::Base(b) => b.text(),
-            TypeWord::Void => b"void",
-            TypeWord::Rec => b"rec",
-            TypeWord::Arr => b"arr",
-            TypeWord::Alt => b"alt",
-        }
-    }
-}
-
-impl NumberWord {
-    // The text of the word in a sheet.
-    fn text(self) -> &'static [u8]
-        ensures { result.now ≡ number_spelling self }
-    {
-        match self {
-            NumberWord::Lit => b"lit",
-            NumberWord::Loc => b"loc",
-            NumberWord::Add => b"add",
-            NumberWord::Mul => b"mul",
-        }
-    }
-}
-
-impl TruthWord {
-    // The text of the word in a sheet.
-    fn text(self) -> &'static [u8]
-        ensures { result.now ≡ truth_spelling self }
-    {
-        match self {
-            TruthWord::True => b"true",
-            TruthWord::False => b"false",
-            TruthWord::Bloc => b"bloc",
-            TruthWord::Not => b"not",
-            TruthWord::And => b"and",
-            TruthWord::Or => b"or",
-            TruthWord::Eq => b"eq",
-            TruthWord::Lt => b"lt",
-        }
-    }
-}
-
-impl StepWord {
-    // The text of the word in a sheet.
-    fn text(self) -> &'static [u8]
-        ensures { result.now ≡ step_spelling self }
-    {
-        match self {
-            StepWord::Dot => b"dot",
-            StepWord::Idx => b"idx",
         }
     }
 }
@@ -198,39 +137,43 @@ impl Word {
         Word::Step(StepWord::Dot),
         Word::Step(StepWord::Idx),
     ];
-}
 
-impl Word {
     // The text of the word in a sheet.
-    fn text(self) -> &'static [u8]
+    fn text(self) -> &'static str
         ensures { result.now ≡ spelling self }
     {
         match self {
-            Word::Type(w) => w.text(),
-            Word::Field => b"fld",
-            Word::Number(w) => w.text(),
-            Word::Truth(w) => w.text(),
-            Word::From => b"from",
-            Word::Step(w) => w.text(),
+            Word::Type(TypeWord::Base(base)) => base.text(),
+            Word::Type(TypeWord::Void) => "void",
+            Word::Type(TypeWord::Rec) => "rec",
+            Word::Type(TypeWord::Arr) => "arr",
+            Word::Type(TypeWord::Alt) => "alt",
+            Word::Field => "fld",
+            Word::Number(NumberWord::Lit) => "lit",
+            Word::Number(NumberWord::Loc) => "loc",
+            Word::Number(NumberWord::Add) => "add",
+            Word::Number(NumberWord::Mul) => "mul",
+            Word::Truth(TruthWord::True) => "true",
+            Word::Truth(TruthWord::False) => "false",
+            Word::Truth(TruthWord::Bloc) => "bloc",
+            Word::Truth(TruthWord::Not) => "not",
+            Word::Truth(TruthWord::And) => "and",
+            Word::Truth(TruthWord::Or) => "or",
+            Word::Truth(TruthWord::Eq) => "eq",
+            Word::Truth(TruthWord::Lt) => "lt",
+            Word::From => "from",
+            Word::Step(StepWord::Dot) => "dot",
+            Word::Step(StepWord::Idx) => "idx",
         }
     }
-}
-
-// The first of the words whose text the bytes are.
-fn find_word(words: &[Word], bytes: &[u8]) -> Option<Word>
-    ensures { result ≡ spelled words.now bytes.now }
-{
-    for w in words {
-        if w.text() == bytes {
-            return Some(*w);
-        }
-    }
-    None
 }
 
 // The word that the bytes are, if they are one.
 pub(crate) fn read_word(bytes: &[u8]) -> Option<Word>
     ensures { result ≡ spelled words bytes.now }
 {
-    find_word(&Word::ALL, bytes)
+    Word::ALL
+        .iter()
+        .copied()
+        .find(|w| w.text().as_bytes() == bytes)
 }

@@ -1,9 +1,9 @@
-use Rattle.std.proofs.Common.{◌-◌}
+use Rattle.std.proofs.Common.{◌≡◌}
 use Rattle.sheet_text.proofs.Reading.{Going}
 use Rattle.sheet_text.proofs.rows.read_lines.Given as goal
 
-abbrev pub invariant-loop-at : goal.invariant-loop-at
-invariant-loop-at l = Going l.text l.initial.table l.table l.room l.at l.k
-
-abbrev pub decreases-loop-at : goal.decreases-loop-at
-decreases-loop-at l = l.room - l.k
+abbrev pub invariant-loop-k : goal.invariant-loop-k
+invariant-loop-k l = record {
+  same : l.lines.text.now ≡ l.fn.lines.text.now;
+  going : Going l.fn.lines.text.now l.fn.lines.at l.initial.place-items l.place-items l.room l.lines.at l.k-counter;
+}

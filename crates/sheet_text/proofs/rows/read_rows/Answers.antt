@@ -1,19 +1,21 @@
-use Rattle.std.proofs.Common.{ap}
-use Rattle.told.specs.Answers.{as_told}
-use Rattle.sheet_text.specs.Refusals.{sheet_told}
+use Rattle.std.proofs.Common.{◌≡◌, length, Err, rules}
+use Rattle.sheet_text.specs.Rows.{lines_of, laid}
+use Rattle.sheet_text.specs.declared.refusal.Reason.TheVariants as reason
 use Rattle.sheet_text.proofs.LineFaults.{reads_so}
 use Rattle.sheet_text.proofs.rows.read_rows.Goals as goal
 
-pub returns : goal.returns
-returns c =
-    let e = c.read_text.ensures in
+pub returns-then-text-clause-reads : goal.returns-then-text-clause-reads
+returns-then-text-clause-reads c =
     let text = c.args.text.now in
     let table = c.args.table.now in
-    let left = c.read_text.new.table in
-    record {
-      told = ap (as_told sheet_told) e.result;
-      result = e.result;
-      rows = e.rows;
-      within = e.within;
-      reads = reads_so text table left e.rows c.read_text.result e.result;
-    }
+    let rows : table ≡ laid (lines_of text (length table)).rows table = search rules in
+    let is : Err (record { reason = reason.Count; line = 1 }) ≡ (lines_of text (length table)).result = search rules in
+    reads_so text table table rows _ is
+
+pub returns-clause-reads : goal.returns-clause-reads
+returns-clause-reads c =
+    let text = c.args.text.now in
+    let table = c.args.table.now in
+    let rows : c.read_lines.new.table ≡ laid (lines_of text (length table)).rows table = search rules in
+    let is : c.read_lines.result ≡ (lines_of text (length table)).result = search rules in
+    reads_so text table c.read_lines.new.table rows _ is
