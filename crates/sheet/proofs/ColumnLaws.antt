@@ -4,7 +4,7 @@ use Rattle.sheet_text.specs.declared.row.Row.{Row}
 use Rattle.sheet_text.specs.declared.row.Span.{Span}
 use Rattle.sheet_text.specs.declared.row.Column.{Column}
 use Rattle.sheet_text.specs.declared.row.Column.TheVariants as column
-use Rattle.sheet_text.proofs.Tests.{and_parts, and_true, or_left, or_right, true_false}
+use Rattle.std.proofs.lemmas.Bool.{false≢true, and_parts, and_from, or_left, or_right}
 use Rattle.sheet_text.proofs.Plain.{name_is, name_made}
 use Rattle.sheet.specs.Rules.{family_of}
 use Rattle.sheet.specs.Checks.{refers, is_blank, is_named, names_part, is_numeric, is_climb, meets, keeps_rule, same_family}
@@ -27,7 +27,7 @@ module _ (text : List ℕ) (s : Span) where
   named_from : NameInside text s → names_part text s ≡ true
   named_from h =
       let i = h.inside in
-      and_true (le-leb s.at (length text) (omega arith)) (and_true (le-leb s.len (length text - s.at) (omega arith)) (name_made _ h.proper))
+      and_from _ _ (le-leb s.at (length text) (omega arith)) (and_from _ _ (le-leb s.len (length text - s.at) (omega arith)) (name_made _ h.proper))
 
 module _ (rows : List Row) (k : ℕ) (f : Family) where
   names_is : (c : Column) → refers rows k f c ≡ true → Names rows k f c
@@ -35,33 +35,33 @@ module _ (rows : List Row) (k : ℕ) (f : Family) where
       let p = and_parts _ _ e in
       let q = and_parts _ _ p.1 in
       (n, (refl, record { later = ltb-true k n p.0; exists = ltb-true n (length rows) q.0; family = same_is _ f q.1 }))
-  names_is (column.Name s) e = absurd (true_false e refl)
-  names_is column.Blank e = absurd (true_false e refl)
+  names_is (column.Name s) e = absurd (false≢true e)
+  names_is column.Blank e = absurd (false≢true e)
 
   names_from : (c : Column) → Names rows k f c → refers rows k f c ≡ true
   names_from c h =
       let l = h.1.1 in
       ap (refers rows k f) h.1.0
-      ∙ and_true (lt-ltb k h.0 l.later) (and_true (lt-ltb h.0 (length rows) l.exists) (same_from _ f l.family))
+      ∙ and_from _ _ (lt-ltb k h.0 l.later) (and_from _ _ (lt-ltb h.0 (length rows) l.exists) (same_from _ f l.family))
 
 module _ (text : List ℕ) (rows : List Row) (k : ℕ) where
   pub holds_is : (w : Need) (c : Column) → meets text rows k w c ≡ true → Holds text rows k w c
   holds_is need.Blank column.Blank e = refl
-  holds_is need.Blank (column.Number n) e = absurd (true_false e refl)
-  holds_is need.Blank (column.Name s) e = absurd (true_false e refl)
-  holds_is need.Name column.Blank e = absurd (true_false e refl)
-  holds_is need.Name (column.Number n) e = absurd (true_false e refl)
+  holds_is need.Blank (column.Number n) e = absurd (false≢true e)
+  holds_is need.Blank (column.Name s) e = absurd (false≢true e)
+  holds_is need.Name column.Blank e = absurd (false≢true e)
+  holds_is need.Name (column.Number n) e = absurd (false≢true e)
   holds_is need.Name (column.Name s) e = (s, (refl, named_is text s e))
-  holds_is need.Number column.Blank e = absurd (true_false e refl)
+  holds_is need.Number column.Blank e = absurd (false≢true e)
   holds_is need.Number (column.Number n) e = (n, (refl, leb-true n _ e))
-  holds_is need.Number (column.Name s) e = absurd (true_false e refl)
-  holds_is need.Climb column.Blank e = absurd (true_false e refl)
+  holds_is need.Number (column.Name s) e = absurd (false≢true e)
+  holds_is need.Climb column.Blank e = absurd (false≢true e)
   holds_is need.Climb (column.Number n) e = (n, (refl, leb-true n _ e))
-  holds_is need.Climb (column.Name s) e = absurd (true_false e refl)
+  holds_is need.Climb (column.Name s) e = absurd (false≢true e)
   holds_is (need.Row f) c e = names_is rows k f c e
   holds_is (need.RowOrBlank f) column.Blank e = inl refl
   holds_is (need.RowOrBlank f) (column.Number n) e = inr (names_is rows k f (column.Number n) e)
-  holds_is (need.RowOrBlank f) (column.Name s) e = absurd (true_false e refl)
+  holds_is (need.RowOrBlank f) (column.Name s) e = absurd (false≢true e)
 
   pub holds_from : (w : Need) (c : Column) → Holds text rows k w c → meets text rows k w c ≡ true
   holds_from need.Blank c h = ap is_blank h
@@ -82,4 +82,4 @@ module _ (text : List ℕ) (rows : List Row) (k : ℕ) where
 
   pub kept_from : (r : Row) → AsAsked text rows k r → (ltb 0 k || same_family (family_of r.word) family.Type) ≡ true → keeps_rule text rows k r ≡ true
   kept_from r h z =
-      and_true (holds_from _ r.name h.name) (and_true (holds_from _ r.one h.one) (and_true (holds_from _ r.two h.two) (and_true (holds_from _ r.three h.three) z)))
+      and_from _ _ (holds_from _ r.name h.name) (and_from _ _ (holds_from _ r.one h.one) (and_from _ _ (holds_from _ r.two h.two) (and_from _ _ (holds_from _ r.three h.three) z)))

@@ -1,7 +1,9 @@
 -- The order of the checks.
-use Rattle.std.proofs.Common.{◌≡◌, ℕ, ◌+◌, ◌<◌, ◌≤◌, cond, ltb, Some, None, Option, ap, ◌∙◌, arith, le-ltb, lt-ltb, eq-eqb, ne_eqb}
-use Rattle.sheet.specs.Verdict.{fault, fault_or, first_fault}
+use Rattle.std.proofs.Common.{◌≡◌, ℕ, ◌+◌, ◌<◌, ◌≤◌, cond, ltb, Some, None, Ok, Err, Option, refl, ap, ◌∙◌, arith, le-ltb, lt-ltb, eq-eqb, ne_eqb}
+use Rattle.sheet.specs.Verdict.{fault, fault_or, first_fault, answer}
+use Rattle.sheet_text.specs.declared.refusal.Reason.{Reason}
 use Rattle.sheet_text.specs.declared.refusal.Reason.TheVariants as reason
+use Rattle.sheet_text.specs.declared.refusal.SheetRefusal.{SheetRefusal}
 
 module _ (n : ℕ) (a b d : Option ℕ) where
   pub no_rows : n ≡ 0 → first_fault n a b d ≡ fault reason.Count 1
@@ -41,3 +43,13 @@ module _ (n : ℕ) (a b d : Option ℕ) where
 
       pub no_fault : d ≡ None → first_fault n a b d ≡ None
       no_fault e = depth_left ∙ ap (λ o. fault_or reason.Depth o None) e
+
+-- a check that refuses does so whatever comes later
+pub stops : (e : Reason) (o : Option ℕ) (later : Option SheetRefusal) (f : SheetRefusal) → Err f ≡ answer (fault_or e o None) → Err f ≡ answer (fault_or e o later)
+stops e None later f is = let z : ◌≡◌ {A = ℕ} 0 1 = cc in absurd (omega arith)
+stops e (Some k) later f is = is
+
+-- and one that does not leaves it to the later ones
+pub passes : (e : Reason) (o : Option ℕ) (later : Option SheetRefusal) → Ok tt ≡ answer (fault_or e o None) → fault_or e o later ≡ later
+passes e None later is = refl
+passes e (Some k) later is = let z : ◌≡◌ {A = ℕ} 0 1 = cc in absurd (omega arith)

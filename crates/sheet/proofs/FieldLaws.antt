@@ -8,7 +8,7 @@ use Rattle.sheet_text.specs.declared.row.Column.TheVariants as column
 use Rattle.sheet_text.specs.declared.word.Word.{Word}
 use Rattle.sheet_text.specs.declared.word.Word.TheVariants as word
 use Rattle.sheet_text.specs.declared.word.TypeWord.TheVariants as type
-use Rattle.sheet_text.proofs.Tests.{true_false, and_true, or_parts, not_false, refuted}
+use Rattle.std.proofs.lemmas.Bool.{or_parts, false≢true, both_ways, and_from, or_cases, not_from_false, false_from_ne_true}
 use Rattle.sheet.specs.Checks.{no_row, word_at}
 use Rattle.sheet.specs.Fields.{member, distinct, field_in, chain_names, fields_differ, is_record}
 use Rattle.sheet.specs.Keeps.{Holds, AsAsked, FieldAt, name_at, NamesDiffer}
@@ -20,18 +20,14 @@ use Rattle.sheet.proofs.Chains.{chain_end, chain_none, chain_some}
 use Rattle.sheet.proofs.Lawful.{each_passes, fields_apart}
 
 -- lists of names with no name twice
-neither : (a b : Bool) → (a || b) ≡ false → (a ≡ false) × (b ≡ false)
-neither false b e = (refl, e)
-neither true b e = absurd (true_false refl e)
-
 both : (a b : Bool) → (not a && b) ≡ true → (a ≡ false) × (b ≡ true)
 both false b e = (refl, e)
-both true b e = absurd (true_false e refl)
+both true b e = absurd (false≢true e)
 
 absent : (x : List ℕ) (ys : List (List ℕ)) → member x ys ≡ false → (i : ℕ) → i < length ys → x ≡ get_or ys i [] → ⊥
 absent x [] e i h s = absurd (omega arith)
-absent x (y ∷ ys) e zero h s = true_false ((bytes_eq-Decides x y).1 s) (neither (bytes_eq x y) (member x ys) e).0
-absent x (y ∷ ys) e (suc i) h s = absent x ys (neither (bytes_eq x y) (member x ys) e).1 i (omega arith) s
+absent x (y ∷ ys) e zero h s = both_ways _ (or_parts (bytes_eq x y) (member x ys) e).0 ((bytes_eq-Decides x y).1 s)
+absent x (y ∷ ys) e (suc i) h s = absent x ys (or_parts (bytes_eq x y) (member x ys) e).1 i (omega arith) s
 
 pub differ : (xs : List (List ℕ)) → distinct xs ≡ true → (i j : ℕ) → i < j → j < length xs → get_or xs i [] ≡ get_or xs j [] → ⊥
 differ [] e i j h l s = absurd (omega arith)
@@ -40,18 +36,18 @@ differ (x ∷ xs) e zero (suc j) h l s = absent x xs (both (member x xs) (distin
 differ (x ∷ xs) e (suc i) (suc j) h l s = differ xs (both (member x xs) (distinct xs) e).1 i j (omega arith) (omega arith) s
 
 pub member_at : (x : List ℕ) (ys : List (List ℕ)) → member x ys ≡ true → (i : ℕ) × ((i < length ys) × (x ≡ get_or ys i []))
-member_at x [] e = absurd (true_false e refl)
+member_at x [] e = absurd (false≢true e)
 member_at x (y ∷ ys) e =
     ⊎_elim
     (λ s. (0, (omega arith, (bytes_eq-Decides x y).0 s)))
     (λ m. let r = member_at x ys m in (suc r.0, (omega (arith, r.1.0), r.1.1)))
-    (or_parts (bytes_eq x y) (member x ys) e)
+    (or_cases (bytes_eq x y) (member x ys) e)
 
 pub distinct_from : (xs : List (List ℕ)) → ((i j : ℕ) → i < j → j < length xs → get_or xs i [] ≡ get_or xs j [] → ⊥) → distinct xs ≡ true
 distinct_from [] h = refl
 distinct_from (x ∷ xs) h =
-    and_true
-    (not_false (member x xs) (refuted (member x xs) (λ m. let r = member_at x xs m in h 0 (suc r.0) (omega arith) (omega (arith, r.1.0)) r.1.1)))
+    and_from _ _
+    (not_from_false (member x xs) (false_from_ne_true (member x xs) (λ m. let r = member_at x xs m in h 0 (suc r.0) (omega arith) (omega (arith, r.1.0)) r.1.1)))
     (distinct_from xs (λ i j l m. h (suc i) (suc j) (omega arith) (omega arith)))
 
 -- the one word of the fields

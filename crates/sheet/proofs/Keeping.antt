@@ -4,7 +4,7 @@ use Rattle.sheet_text.specs.declared.row.Row.{Row}
 use Rattle.sheet_text.specs.declared.word.Word.{Word}
 use Rattle.sheet_text.specs.declared.word.Word.TheVariants as word
 use Rattle.sheet_text.specs.declared.word.TypeWord.TheVariants as type
-use Rattle.sheet_text.proofs.Tests.{or_left, or_right, true_false}
+use Rattle.std.proofs.lemmas.Bool.{false≢true, or_left, or_right}
 use Rattle.sheet.specs.Rules.{family_of}
 use Rattle.sheet.specs.Checks.{no_row, word_at, same_family, keeps_rule, first_failing}
 use Rattle.sheet.specs.Fields.{is_record, fields_differ}
@@ -47,15 +47,15 @@ all_pass p rows h = none_fails p 0 rows (λ i l. let same : 0 + i ≡ i = omega 
 
 pub record_word : (w : Word) → is_record w ≡ true → w ≡ word.Type type.Rec
 record_word (word.Type type.Rec) e = refl
-record_word (word.Type (type.Base b)) e = absurd (true_false e refl)
-record_word (word.Type type.Void) e = absurd (true_false e refl)
-record_word (word.Type type.Arr) e = absurd (true_false e refl)
-record_word (word.Type type.Alt) e = absurd (true_false e refl)
-record_word word.Field e = absurd (true_false e refl)
-record_word (word.Number w) e = absurd (true_false e refl)
-record_word (word.Truth w) e = absurd (true_false e refl)
-record_word word.From e = absurd (true_false e refl)
-record_word (word.Step w) e = absurd (true_false e refl)
+record_word (word.Type (type.Base b)) e = absurd (false≢true e)
+record_word (word.Type type.Void) e = absurd (false≢true e)
+record_word (word.Type type.Arr) e = absurd (false≢true e)
+record_word (word.Type type.Alt) e = absurd (false≢true e)
+record_word word.Field e = absurd (false≢true e)
+record_word (word.Number w) e = absurd (false≢true e)
+record_word (word.Truth w) e = absurd (false≢true e)
+record_word word.From e = absurd (false≢true e)
+record_word (word.Step w) e = absurd (false≢true e)
 
 module _ (text : List ℕ) (rows : List Row) (kept : Keeps text rows) where
   first_or_later : (k : ℕ) → (ltb 0 k || same_family (family_of (word_at rows k)) family.Type) ≡ true

@@ -1,6 +1,5 @@
 pub mod Families
 pub mod ColumnLaws
-pub mod Failing
 pub mod Chains
 pub mod Nesting
 pub mod Faults

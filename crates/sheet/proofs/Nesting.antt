@@ -1,5 +1,5 @@
 -- The entries of the rows, from the last to the first.
-use Rattle.std.proofs.Common.{◌≡◌, ℕ, zero, suc, ◌+◌, ◌-◌, ◌<◌, ◌≤◌, Bool, true, false, cond, ltb, List, [], ◌∷◌, length, get_or, drop, set, sym, ap, ◌∙◌, arith, le-ltb, lt-ltb}
+use Rattle.std.proofs.Common.{◌≡◌, ℕ, zero, suc, ◌+◌, ◌-◌, ◌<◌, ◌≤◌, Bool, true, false, cond, ltb, List, [], ◌∷◌, length, get_or, drop, set, sym, ap, ◌∙◌, arith, lt-ltb}
 use Rattle.std.proofs.lemmas.List.{get_or-drop, drop_all, drop-set, drop_more}
 use Rattle.sheet.specs.Checks.{no_row}
 use Rattle.sheet.specs.Depths.{depth_in, record_depth, Shape, plain, of_fields, of_elements, of_choices, field_of, shape_of, depth_as, row_depth, entries}
@@ -11,9 +11,6 @@ pub entry_later : (ds : List ℕ) (own n : ℕ) → own < n → get_or ds n 0 �
 entry_later ds own n h =
     let back : own + 1 + (n - (own + 1)) ≡ n = omega arith in
     sym (ap (λ t. cond t (get_or (drop (own + 1) ds) (n - (own + 1)) 0) 0) (lt-ltb own n h) ∙ get_or-drop (own + 1) ds (n - (own + 1)) 0 ∙ ap (λ i. get_or ds i 0) back)
-
-pub entry_not : (ds : List ℕ) (own n : ℕ) → n ≤ own → 0 ≡ depth_in own (drop (own + 1) ds) (column.Number n)
-entry_not ds own n h = sym (ap (λ t. cond t (get_or (drop (own + 1) ds) (n - (own + 1)) 0) 0) (le-ltb own n h))
 
 module _ (k m : ℕ) (ds : List ℕ) (low : (i : ℕ) → get_or ds i 0 ≤ m) where
   either : (t : Bool) (i : ℕ) → cond t (get_or ds i 0) 0 ≤ m

@@ -5,7 +5,7 @@ use Rattle.sheet_text.specs.declared.refusal.Reason.{Reason}
 use Rattle.sheet_text.specs.declared.refusal.Reason.TheVariants as reason
 use Rattle.sheet_text.specs.declared.refusal.SheetRefusal.{SheetRefusal}
 use Rattle.sheet_text.specs.declared.row.Row.{Row}
-use Rattle.sheet_text.proofs.Tests.{true_false, or_left, or_right, refuted}
+use Rattle.std.proofs.lemmas.Bool.{true≢false, both_ways, or_left, or_right, false_from_ne_true}
 use Rattle.sheet.specs.Rules.{family_of}
 use Rattle.sheet.specs.Checks.{no_row, word_at, same_family, keeps_rule, first_failing}
 use Rattle.sheet.specs.Fields.{chain_names, distinct, member, is_record, fields_differ}
@@ -93,13 +93,13 @@ lowest_found p rows Fault line l bad good =
     let there = l.exists in
     let none : 0 + l.k ≡ l.k = omega arith in
     first_is p 0 rows l.k there
-    (ap (λ n. p n (get_or rows l.k no_row)) none ∙ refuted (p l.k (get_or rows l.k no_row)) (λ t. good l.k there t l.here))
+    (ap (λ n. p n (get_or rows l.k no_row)) none ∙ false_from_ne_true (p l.k (get_or rows l.k no_row)) (λ t. good l.k there t l.here))
     (λ j b. let same : 0 + j ≡ j = omega arith in ap (λ n. p n (get_or rows j no_row)) same ∙ upheld (p j (get_or rows j no_row)) (λ f. l.lower j b (bad j (omega arith) f)))
     ∙ ap Some none
 
 -- names that are not all different
 twice : (xs : List (List ℕ)) → distinct xs ≡ false → (i : ℕ) × ((j : ℕ) × ((i < j) × (j < length xs) × (get_or xs i [] ≡ get_or xs j [])))
-twice [] e = absurd (true_false refl e)
+twice [] e = absurd (true≢false e)
 twice (x ∷ xs) e = by_test (member x xs) refl e (twice xs)
   where
     by_test : (t : Bool) → member x xs ≡ t → (not t && distinct xs) ≡ false → (distinct xs ≡ false → (i : ℕ) × ((j : ℕ) × ((i < j) × (j < length xs) × (get_or xs i [] ≡ get_or xs j [])))) → (i : ℕ) × ((j : ℕ) × ((i < j) × (j < length (x ∷ xs)) × (get_or (x ∷ xs) i [] ≡ get_or (x ∷ xs) j [])))
@@ -108,12 +108,12 @@ twice (x ∷ xs) e = by_test (member x xs) refl e (twice xs)
 
 neither : (a b : Bool) → (not a || b) ≡ false → (a ≡ true) × (b ≡ false)
 neither true b e = (refl, e)
-neither false b e = absurd (true_false refl e)
+neither false b e = absurd (true≢false e)
 
 both_hold : (a b : Bool) → not (a && b) ≡ false → (a ≡ true) × (b ≡ true)
 both_hold true true e = (refl, refl)
-both_hold true false e = absurd (true_false refl e)
-both_hold false b e = absurd (true_false refl e)
+both_hold true false e = absurd (true≢false e)
+both_hold false b e = absurd (true≢false e)
 
 module _ (text : List ℕ) (rows : List Row) where
   -- columns
@@ -130,7 +130,7 @@ module _ (text : List ℕ) (rows : List Row) where
   rule_from k h = kept_from text rows k (get_or rows k no_row) h.0 (first_or_later k h.1)
 
   rule_bad : (k : ℕ) → k < length rows → keeps_rule text rows k (get_or rows k no_row) ≡ false → KeepsRule text rows k → ⊥
-  rule_bad k l f kept = true_false (rule_from k kept) f
+  rule_bad k l f kept = both_ways _ f (rule_from k kept)
 
   rule_good : (k : ℕ) → k < length rows → keeps_rule text rows k (get_or rows k no_row) ≡ true → (KeepsRule text rows k → ⊥) → ⊥
   rule_good k l t never = never (rule_is k t)
@@ -187,8 +187,9 @@ module _ (text : List ℕ) (rows : List Row) where
     depth_good k h e d =
         let is = depth_one text rows columns d.is h in
         let deep : 8 < depth_at rows k = subst (λ n. 8 < n) is d.above in
-        true_false e
+        both_ways _
         (ap (λ t. not (t && ltb 8 (depth_at rows k))) (same_from _ family.Type d.is_type) ∙ ap not (lt-ltb 8 (depth_at rows k) deep))
+        e
 
   none_twice : AllKeepRules text rows → Nowhere rows (NameTwice text rows) → field_fault text rows ≡ None
   none_twice kept once =

@@ -1,5 +1,5 @@
 -- From the rows that were read to the sheet.
-use Rattle.std.proofs.Common.{◌≡◌, ℕ, ◌-◌, not, List, length, take, is_some, IfOk, Some, None, Ok, Err, Option, Result, sym, refl, ap, ◌∙◌, subst, inl, inr, ⊎_elim, arith}
+use Rattle.std.proofs.Common.{◌≡◌, ℕ, not, List, length, take, is_some, IfOk, Some, None, Ok, Err, Option, Result, sym, refl, ap, ◌∙◌, subst, inl, inr, ⊎_elim, arith}
 use Rattle.std.proofs.lemmas.List.{take_at}
 use Rattle.sheet_text.specs.Rows.{lines_of, laid}
 use Rattle.sheet_text.specs.States.{States, Fits}
@@ -16,10 +16,10 @@ use Rattle.sheet.proofs.Keeping.{keeps, no_verdict}
 use Rattle.sheet.proofs.Refusals.{refused, refuses_so}
 
 -- the first places of the table, as many as the answer says, hold the rows
-pub front : (text : List ℕ) (table : List Row) (n : ℕ) → (lines_of text (length table)).result ≡ Ok n → take (n - 0) (laid (lines_of text (length table)).rows table) ≡ (lines_of text (length table)).rows
+pub front : (text : List ℕ) (table : List Row) (n : ℕ) → (lines_of text (length table)).result ≡ Ok n → take n (laid (lines_of text (length table)).rows table) ≡ (lines_of text (length table)).rows
 front text table n e =
     let c = read_counts text (length table) n e in
-    take_at (lines_of text (length table)).rows _ (n - 0) (omega arith)
+    take_at (lines_of text (length table)).rows _ n (omega arith)
 
 pub accepted : (o : Option SheetRefusal) → answer o ≡ Ok tt → o ≡ None
 accepted None e = refl

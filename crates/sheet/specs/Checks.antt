@@ -1,5 +1,5 @@
 -- The rules that the rows of a sheet keep.
-use Rattle.std.specs.Prelude.{ℕ, ◌+◌, ◌-◌, Bool, true, false, cond, ◌&&◌, ◌||◌, List, [], ◌∷◌, length, take, drop, Some, None, Option, ◌==◌, nat_le, nat_lt, slice_index_or}
+use Rattle.std.specs.Prelude.{◌≡◌, ℕ, ◌+◌, ◌-◌, ◌<◌, Bool, true, false, cond, ◌&&◌, ◌||◌, List, [], ◌∷◌, length, take, drop, Some, None, Option, ◌==◌, nat_le, nat_lt, slice_index_or}
 use Rattle.sheet.specs.Rules.{family_of, rule_of}
 use Rattle.sheet.specs.declared.rule.Family.{Family}
 use Rattle.sheet.specs.declared.rule.Family.TheVariants as family
@@ -90,3 +90,7 @@ keeps_rule text rows k r =
 abbrev pub first_failing : (ℕ → Row → Bool) → ℕ → List Row → Option ℕ
 first_failing p k [] = None
 first_failing p k (r ∷ rs) = cond (p k r) (first_failing p (k + 1) rs) (Some k)
+
+-- at each row, what is given for the row is what p says of it
+abbrev pub Tests : (ℕ → Row → Bool → Type 0) → (ℕ → Row → Bool) → List Row → Type 0
+Tests gives p rows = (k : ℕ) → k < length rows → (b : Bool) → gives k (slice_index_or rows k no_row) b → b ≡ p k (slice_index_or rows k no_row)

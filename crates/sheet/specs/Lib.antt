@@ -1,6 +1,7 @@
 pub mod Rules
 pub mod Checks
 pub mod Fields
+pub mod Names
 pub mod Depths
 pub mod Verdict
 pub mod Nests

@@ -6,8 +6,8 @@ ghost use Rattle.sheet.specs.Keeps.{Keeps};
 ghost use Rattle.sheet.specs.Readings.{Judges};
 ghost use Rattle.sheet.specs.Verdict.{lawful, verdict, answer, word_if, one_byte};
 
-use super::verdict::check_rows;
-use sheet_text::{Base, Column, Row, SheetRefusal, TypeWord, Word};
+use super::draft::Draft;
+use sheet_text::{Base, Row, SheetRefusal, TypeWord, Word};
 
 // A sheet: rows over the text that holds their names, which keep every rule.
 #[derive(Clone, Copy)]
@@ -19,10 +19,7 @@ pub struct CheckedSheet<'t, 'r> {
 
 static BYTE: [Row; 1] = [Row {
     word: Word::Type(TypeWord::Base(Base::U8)),
-    name: Column::Blank,
-    one: Column::Blank,
-    two: Column::Blank,
-    three: Column::Blank,
+    ..Row::BLANK
 }];
 
 impl<'t, 'r> CheckedSheet<'t, 'r> {
@@ -46,65 +43,41 @@ impl<'t, 'r> CheckedSheet<'t, 'r> {
         ensures kept { (e : SheetRefusal) → result ≡ Err e → self.new ≡ self.old }
         ensures judges { Judges text.now rows.now result }
     {
-        self.replace(text, rows)
-    }
-
-    fn replace(&mut self, text: &'t [u8], rows: &'r [Row]) -> Result<(), SheetRefusal>
-        ensures result { result ≡ answer (verdict text.now rows.now) }
-        ensures rows { self.new.rows.now ≡ (if lawful text.now rows.now then rows.now else self.old.rows.now) }
-        ensures text { self.new.text.now ≡ (if lawful text.now rows.now then text.now else self.old.text.now) }
-        ensures kept { (e : SheetRefusal) → result ≡ Err e → self.new ≡ self.old }
-    {
-        check_rows(text, rows)?;
+        Draft { text, rows }.check()?;
         *self = CheckedSheet { text, rows };
         Ok(())
     }
 
     // How many rows it has: 1 to 256.
+    #[tactic(auto, using(crate::proofs::Lawful::some_rows, crate::proofs::Lawful::few_rows))]
     pub fn len(&self) -> usize
         ensures is { result ≡ length self.now.rows.now }
         ensures some { 0 < result }
         ensures few { result ≤ 256 }
     {
-        self.count()
-    }
-
-    fn count(&self) -> usize
-        ensures { result ≡ length self.now.rows.now }
-    {
         self.rows.len()
     }
 
     // The rows, which keep every rule.
+    #[tactic(auto, using(crate::proofs::Keeping::keeps))]
     pub fn rows(&self) -> &'r [Row]
         ensures is { result.now ≡ self.now.rows.now }
         ensures keeps { Keeps self.now.text.now self.now.rows.now }
     {
-        self.all_rows()
-    }
-
-    fn all_rows(&self) -> &'r [Row]
-        ensures { result.now ≡ self.now.rows.now }
-    {
-        let CheckedSheet { rows, .. } = *self;
-        rows
+        self.rows
     }
 
     // The text that holds the names.
     pub fn text(&self) -> &'t [u8]
         ensures { result.now ≡ self.now.text.now }
     {
-        let CheckedSheet { text, .. } = *self;
-        text
+        self.text
     }
 
     // The word of a row.
     pub fn word(&self, row: usize) -> Option<Word>
         ensures { result ≡ word_if self.now.rows.now row }
     {
-        match self.rows.get(row) {
-            Some(found) => Some(found.word),
-            None => None,
-        }
+        self.rows.get(row).map(|found| found.word)
     }
 }

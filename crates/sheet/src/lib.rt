@@ -1,15 +1,14 @@
 // The rules of format sheets, and sheets that keep them.
 #![tactic(auto)]
 
-mod check;
 mod checked;
+mod column;
 mod depth;
-mod fields;
+mod draft;
+mod names;
 mod read;
 mod rule;
-mod verdict;
 
-pub use check::target;
 pub use checked::CheckedSheet;
-pub use fields::name_of;
+pub use column::{name_of, target};
 pub use read::read_sheet;

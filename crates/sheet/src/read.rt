@@ -6,7 +6,7 @@ ghost use Rattle.sheet_text.specs.Rows.{laid};
 ghost use Rattle.sheet.specs.Readings.{Reads};
 ghost use Rattle.sheet.specs.Sheets.{read_of};
 
-use super::verdict::check_rows;
+use super::draft::Draft;
 use sheet_text::{Row, SheetRefusal, read_rows};
 
 // Reads the rows that the lines of the text state into the first places of the table, checks them, and counts them.
@@ -17,14 +17,11 @@ pub fn read_sheet(text: &[u8], table: &mut [Row]) -> Result<usize, SheetRefusal>
     ensures rows { table.new ≡ laid (read_of text.now (length table.old)).rows table.old }
     ensures reads { Reads text.now table.old table.new result }
 {
-    read_checked(text, table)
-}
-
-fn read_checked(text: &[u8], table: &mut [Row]) -> Result<usize, SheetRefusal>
-    ensures result { result ≡ (read_of text.now (length table.old)).result }
-    ensures rows { table.new ≡ laid (read_of text.now (length table.old)).rows table.old }
-{
     let n = read_rows(text, table)?;
-    check_rows(text, &table[0..n])?;
+    Draft {
+        text,
+        rows: &table[..n],
+    }
+    .check()?;
     Ok(n)
 }

@@ -3,7 +3,6 @@ pub mod Numbers
 pub mod Lines
 pub mod Reading
 pub mod Counts
-pub mod Tests
 pub mod Plain
 pub mod Written
 pub mod Spelled

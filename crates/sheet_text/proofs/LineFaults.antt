@@ -18,7 +18,7 @@ use Rattle.sheet_text.specs.declared.word.Word.{Word}
 use Rattle.sheet_text.proofs.Reading.{lines_end, lines_full, lines_row}
 use Rattle.sheet_text.proofs.Spelled.{spelled_words}
 use Rattle.sheet_text.proofs.Stated.{held_of, six_there, six_made, own_number, word_found, row_there, line_within, ahead, lines_ahead, lines_forward, past_first, head_length, every_stated, all_read}
-use Rattle.sheet_text.proofs.Tests.{true_false, refuted}
+use Rattle.std.proofs.lemmas.Bool.{both_ways, false_from_ne_true}
 
 module _ (text : List ℕ) where
   -- one line
@@ -49,7 +49,7 @@ module _ (text : List ℕ) where
         λ s own.
             let f : Some h ≡ Some (held_of text at s) = sym is ∙ six_made text at s in
             let g : h ≡ held_of text at s = cc in
-            true_false (ap (is_number k) (ap (λ x. x.number) g ∙ own) ∙ eq-eqb k k refl) n,
+            both_ways _ n (ap (is_number k) (ap (λ x. x.number) g ∙ own) ∙ eq-eqb k k refl),
       )
 
   no_line : (room at k : ℕ) (e : Reason) (o : Option Held) → k < room → line_at text at ≡ o → row_from k o ≡ Err e → BadLine e text room at k
@@ -154,7 +154,7 @@ module _ (text : List ℕ) where
   by_head places false h e is =
       let same : record { reason = reason.Header; line = 1 } ≡ e = cc in
       subst (λ x. LinesRefused text places [] x.reason x.line) same
-      (λ x. true_false ((bytes_eq-Decides header (take 28 text)).1 (sym x)) h, refl, refl)
+      (λ x. both_ways _ h ((bytes_eq-Decides header (take 28 text)).1 (sym x)), refl, refl)
 
   -- a refusal says what it has to
   pub lines_refused : (places : ℕ) (e : SheetRefusal) → (lines_of text places).result ≡ Err e → LinesRefused text places (lines_of text places).rows e.reason e.line
@@ -233,7 +233,7 @@ module _ (text : List ℕ) where
   pub refused_so : (places line : ℕ) (rows : List Row) (r : Reason) → LinesRefused text places rows r line → lines_of text places ≡ refusal rows r line
   refused_so places line rows reason.Header h =
       ap (λ t. cond t (cond (eqb (length text) 28) (refused reason.Count 1) (further_lines text places)) (refused reason.Header 1))
-      (refuted (headed text) (λ t. h.0 (sym ((bytes_eq-Decides header (take 28 text)).0 t))))
+      (false_from_ne_true (headed text) (λ t. h.0 (sym ((bytes_eq-Decides header (take 28 text)).0 t))))
       ∙ bare rows reason.Header line h.1 h.2
   refused_so places line rows reason.Count h =
       ⊎_elim

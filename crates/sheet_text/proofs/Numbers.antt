@@ -10,9 +10,6 @@ pub chosen_some : (t : Bool) (d n : ℕ) → cond t (Some d) None ≡ Some n →
 chosen_some true d n e = (refl, cc)
 chosen_some false d n e = let z : ◌≡◌ {A = ℕ} 0 1 = cc in absurd (omega arith)
 
-pub digits_stop : (n b : ℕ) (bs : List ℕ) → is_digit b ≡ false → digits_after n (b ∷ bs) ≡ None
-digits_stop n b bs e = ap (λ t. cond (t && all_digits bs) (bounded (decimal_after n (b ∷ bs))) None) e
-
 pub digits_step : (n b : ℕ) (bs : List ℕ) → is_digit b ≡ true → digits_after n (b ∷ bs) ≡ digits_after (10 * n + (b - 48)) bs
 digits_step n b bs e = ap (λ t. cond (t && all_digits bs) (bounded (decimal_after n (b ∷ bs))) None) e
 

@@ -3,16 +3,16 @@ use Rattle.std.proofs.Common.{◌≡◌, ℕ, zero, suc, ◌<◌, ◌≤◌, Boo
 use Rattle.sheet_text.specs.Chars.{within, is_letter, is_digit, class_of, leads, follows, name_bytes, is_name}
 use Rattle.sheet_text.specs.Plain.{Letter, Digit, NamePart, ProperName}
 use Rattle.sheet_text.specs.declared.token.NameByte.TheVariants as byte
-use Rattle.sheet_text.proofs.Tests.{and_parts, and_true, or_parts, or_left, or_right, true_false}
+use Rattle.std.proofs.lemmas.Bool.{false≢true, and_parts, and_from, or_cases, or_left, or_right}
 
 within_is : (low high b : ℕ) → within low high b ≡ true → (low ≤ b) × (b ≤ high)
 within_is low high b e = let p = and_parts _ _ e in (leb-true low b p.0, leb-true b high p.1)
 
 within_from : (low high b : ℕ) → low ≤ b → b ≤ high → within low high b ≡ true
-within_from low high b l h = and_true (le-leb low b l) (le-leb b high h)
+within_from low high b l h = and_from _ _ (le-leb low b l) (le-leb b high h)
 
 pub letter_is : (b : ℕ) → is_letter b ≡ true → Letter b
-letter_is b e = ⊎_elim (λ p. inl (within_is 97 122 b p)) (λ p. inr (within_is 65 90 b p)) (or_parts (within 97 122 b) (within 65 90 b) e)
+letter_is b e = ⊎_elim (λ p. inl (within_is 97 122 b p)) (λ p. inr (within_is 65 90 b p)) (or_cases (within 97 122 b) (within 65 90 b) e)
 
 pub letter_from : (b : ℕ) → Letter b → is_letter b ≡ true
 letter_from b =
@@ -40,8 +40,8 @@ follows_by false false false = refl
 part_is : (b : ℕ) → follows (class_of b) ≡ true → NamePart b
 part_is b e =
     ⊎_elim (λ p. inl (letter_is b p))
-    (λ q. inr (⊎_elim (λ p. inl (digit_is b p)) (λ p. inr (eqb-true b 95 p)) (or_parts (is_digit b) (eqb b 95) q)))
-    (or_parts (is_letter b) (is_digit b || eqb b 95) (sym (follows_by (is_letter b) (is_digit b) (eqb b 95)) ∙ e))
+    (λ q. inr (⊎_elim (λ p. inl (digit_is b p)) (λ p. inr (eqb-true b 95 p)) (or_cases (is_digit b) (eqb b 95) q)))
+    (or_cases (is_letter b) (is_digit b || eqb b 95) (sym (follows_by (is_letter b) (is_digit b) (eqb b 95)) ∙ e))
 
 part_from_lem : (b : ℕ) → NamePart b → follows (class_of b) ≡ true
 part_from_lem b h =
@@ -57,10 +57,10 @@ parts_are (b ∷ bs) e (suc i) h = parts_are bs (and_parts (follows (class_of b)
 
 parts_from : (bs : List ℕ) → ((i : ℕ) → i < length bs → NamePart (get_or bs i 0)) → name_bytes bs ≡ true
 parts_from [] h = refl
-parts_from (b ∷ bs) h = and_true (part_from_lem b (h 0 (omega arith))) (parts_from bs (λ i l. h (suc i) (omega arith)))
+parts_from (b ∷ bs) h = and_from _ _ (part_from_lem b (h 0 (omega arith))) (parts_from bs (λ i l. h (suc i) (omega arith)))
 
 pub name_is : (bs : List ℕ) → is_name bs ≡ true → ProperName bs
-name_is [] e = absurd (true_false e refl)
+name_is [] e = absurd (false≢true e)
 name_is (b ∷ bs) e =
     let p = and_parts _ _ e in
     let q = and_parts _ _ p.1 in
@@ -69,11 +69,11 @@ name_is (b ∷ bs) e =
       some = omega arith;
       few = leb-true _ 16 p.0;
       first = l;
-      each = λ i h. parts_are (b ∷ bs) (and_true (part_from_lem b (inl l)) q.1) i h;
+      each = λ i h. parts_are (b ∷ bs) (and_from _ _ (part_from_lem b (inl l)) q.1) i h;
     }
 
 pub name_made : (bs : List ℕ) → ProperName bs → is_name bs ≡ true
 name_made [] h = let z = h.some in absurd (omega arith)
 name_made (b ∷ bs) h =
-    and_true (le-leb _ 16 h.few)
-    (and_true (leads_by (is_letter b) (is_digit b) (eqb b 95) ∙ letter_from b h.first) (parts_from bs (λ i l. h.each (suc i) (omega arith))))
+    and_from _ _ (le-leb _ 16 h.few)
+    (and_from _ _ (leads_by (is_letter b) (is_digit b) (eqb b 95) ∙ letter_from b h.first) (parts_from bs (λ i l. h.each (suc i) (omega arith))))

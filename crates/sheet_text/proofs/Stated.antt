@@ -21,7 +21,7 @@ use Rattle.sheet_text.proofs.Counts.{read_counts, read_few}
 use Rattle.sheet_text.proofs.Lines.{part_ended}
 use Rattle.sheet_text.proofs.Reading.{lines_end, lines_full, lines_row}
 use Rattle.sheet_text.proofs.Spelled.{spelled_is, spelled_words}
-use Rattle.sheet_text.proofs.Tests.{true_false}
+use Rattle.std.proofs.lemmas.Bool.{false≢true}
 use Rattle.sheet_text.proofs.Written.{value_is, value_from, no_stops}
 
 -- one value
@@ -30,7 +30,7 @@ some_mapped f None y e = let z : ◌≡◌ {A = ℕ} 0 1 = cc in absurd (omega a
 some_mapped f (Some x) y e = (x, (refl, cc))
 
 begins_is : (stop : ℕ) (xs : List ℕ) → begins stop xs ≡ true → (xs ≡ stop ∷ drop 1 xs) × (0 < length xs)
-begins_is stop [] e = absurd (true_false e refl)
+begins_is stop [] e = absurd (false≢true e)
 begins_is stop (b ∷ bs) e = (ap (λ c. c ∷ bs) (eqb-true b stop e), omega arith)
 
 -- a value with its place and that of the next
@@ -208,8 +208,8 @@ module _ (text : List ℕ) where
   -- the row of a line
   pub own_number : (k : ℕ) (v : Value) → is_number k v ≡ true → v ≡ value.number k
   own_number k (value.number m) e = ap value.number (eqb-true m k e)
-  own_number k (value.name bs) e = absurd (true_false e refl)
-  own_number k value.blank e = absurd (true_false e refl)
+  own_number k (value.name bs) e = absurd (false≢true e)
+  own_number k value.blank e = absurd (false≢true e)
 
   pub word_found : (v : Value) (w : Word) → word_in v ≡ Some w → v ≡ value.name (spelling w)
   word_found (value.name bs) w e = ap value.name (sym (spelled_is words bs w e))

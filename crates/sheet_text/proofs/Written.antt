@@ -7,7 +7,7 @@ use Rattle.sheet_text.specs.Plain.{Letter, Digit, NamePart}
 use Rattle.sheet_text.specs.States.{Decimal, Writes}
 use Rattle.sheet_text.proofs.Numbers.{bounded_under}
 use Rattle.sheet_text.proofs.Plain.{digit_is, digit_from, name_is, name_made}
-use Rattle.sheet_text.proofs.Tests.{true_false, and_parts, and_true, refuted}
+use Rattle.std.proofs.lemmas.Bool.{false≢true, both_ways, and_parts, and_from, false_from_ne_true}
 
 -- a test that let a value through
 chosen : {A : Type 0} (t : Bool) (o : Option A) (x : A) → cond t o None ≡ Some x → (t ≡ true) × (o ≡ Some x)
@@ -25,12 +25,12 @@ digits_are (b ∷ bs) e (suc i) h = digits_are bs (and_parts (is_digit b) (all_d
 
 digits_from : (bs : List ℕ) → ((i : ℕ) → i < length bs → Digit (get_or bs i 0)) → all_digits bs ≡ true
 digits_from [] h = refl
-digits_from (b ∷ bs) h = and_true (digit_from b (h 0 (omega arith))) (digits_from bs (λ i l. h (suc i) (omega arith)))
+digits_from (b ∷ bs) h = and_from _ _ (digit_from b (h 0 (omega arith))) (digits_from bs (λ i l. h (suc i) (omega arith)))
 
 zero_leads : (bs : List ℕ) → leads_with_zero bs ≡ false → 1 < length bs → get_or bs 0 0 ≡ 48 → ⊥
 zero_leads [] e h z = omega arith
 zero_leads (b ∷ []) e h z = omega arith
-zero_leads (b ∷ c ∷ bs) e h z = true_false (eq-eqb b 48 z) e
+zero_leads (b ∷ c ∷ bs) e h z = both_ways _ e (eq-eqb b 48 z)
 
 none_leads : (bs : List ℕ) → (1 < length bs → get_or bs 0 0 ≡ 48 → ⊥) → leads_with_zero bs ≡ false
 none_leads [] h = refl
@@ -57,9 +57,9 @@ number_from (b ∷ bs) n d =
     ∙ bounded_under (decimal_after 0 (b ∷ bs)) (omega arith) ∙ ap Some v
 
 blank_is : (bs : List ℕ) → is_blank bs ≡ true → bs ≡ 45 ∷ []
-blank_is [] e = absurd (true_false e refl)
+blank_is [] e = absurd (false≢true e)
 blank_is (b ∷ []) e = ap (λ c. c ∷ []) (eqb-true b 45 e)
-blank_is (b ∷ c ∷ bs) e = absurd (true_false e refl)
+blank_is (b ∷ c ∷ bs) e = absurd (false≢true e)
 
 -- the value of bytes, by its tests
 module _ (bs : List ℕ) where
@@ -79,7 +79,7 @@ module _ (bs : List ℕ) where
   value_is v h = blanked _ refl v h
 
   not_blank : (get_or bs 0 0 ≡ 45 → ⊥) → is_blank bs ≡ false
-  not_blank h = refuted (is_blank bs) (λ e. h (ap (λ xs. get_or xs 0 0) (blank_is bs e)))
+  not_blank h = false_from_ne_true (is_blank bs) (λ e. h (ap (λ xs. get_or xs 0 0) (blank_is bs e)))
 
   past_blank : is_blank bs ≡ false → value_of bs ≡ cond (is_name bs) (Some (name bs)) (as_number (number_of bs))
   past_blank e = ap (λ t. cond t (Some blank) (cond (is_name bs) (Some (name bs)) (as_number (number_of bs)))) e
@@ -95,7 +95,7 @@ module _ (bs : List ℕ) where
   value_from (number n) h =
       let first : Digit (get_or bs 0 0) = let s = h.some in h.digits 0 (omega arith) in
       past_blank (not_blank (λ e. omega (arith, first.0, e)))
-      ∙ ap (λ t. cond t (Some (name bs)) (as_number (number_of bs))) (refuted (is_name bs) (λ e. letter_digit _ (name_is bs e).first first))
+      ∙ ap (λ t. cond t (Some (name bs)) (as_number (number_of bs))) (false_from_ne_true (is_name bs) (λ e. letter_digit _ (name_is bs e).first first))
       ∙ ap as_number (number_from bs n h)
 
 -- no byte of a value is a comma or a line feed

@@ -6,7 +6,7 @@ use Rattle.std.specs.List.{list_all}
 use Rattle.sheet_text.specs.Chars.{class_of, leads, follows, is_name}
 use Rattle.sheet_text.proofs.Names.{name_from}
 use Rattle.sheet_text.proofs.Plain.{name_is, name_made}
-use Rattle.sheet_text.proofs.Tests.{true_false}
+use Rattle.std.proofs.lemmas.Bool.{both_ways}
 use Rattle.sheet_text.proofs.token.is_name.Goals as goal
 use Rattle.sheet_text.proofs.token.is_name.Goals.{then-bytes-le16, else-bytes-le16}
 
@@ -17,6 +17,6 @@ returns-then-leads c =
     let is : c.all.result ≡ is_name xs =
     elim c.if-bytes-le16.branch [
       | then-bytes-le16 w ↦ name_from xs _ (omega arith) (ap leads (sym w.name_byte.ensures) ∙ sym w.leads.ensures ∙ sym w.value-is ∙ c.if-leads.true) each
-      | else-bytes-le16 w ↦ absurd (true_false c.if-leads.true (w.value-is ∙ lt-leb _ _ (omega arith)))
+      | else-bytes-le16 w ↦ absurd (both_ways _ (w.value-is ∙ lt-leb _ _ (omega arith)) c.if-leads.true)
     ] in
     record { is = is; proper = λ e. name_is xs (sym is ∙ e); every = λ n. is ∙ name_made xs n }

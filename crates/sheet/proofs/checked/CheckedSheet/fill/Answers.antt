@@ -1,17 +1,14 @@
-use Rattle.std.proofs.Common.{ap}
-use Rattle.told.specs.Answers.{as_told}
-use Rattle.sheet_text.specs.Refusals.{sheet_told}
+use Rattle.std.proofs.Common.{◌≡◌, Ok, rules}
+use Rattle.sheet.specs.Verdict.{verdict, answer}
 use Rattle.sheet.proofs.Whole.{judged}
 use Rattle.sheet.proofs.checked.CheckedSheet.fill.Goals as goal
 
-pub returns : goal.returns
-returns c =
-    let e = c.replace.ensures in
-    record {
-      told = ap (as_told sheet_told) e.result;
-      result = e.result;
-      rows = e.rows;
-      text = e.text;
-      kept = e.kept;
-      judges = judged c.args.text.now c.args.rows.now c.replace.result e.result;
-    }
+pub returns-in_err-check-clause-judges : goal.returns-in_err-check-clause-judges
+returns-in_err-check-clause-judges c =
+    let e : c.from_residual.result ≡ answer (verdict c.args.text.now c.args.rows.now) = search rules in
+    judged c.args.text.now c.args.rows.now c.from_residual.result e
+
+pub returns-clause-judges : goal.returns-clause-judges
+returns-clause-judges c =
+    let e : Ok tt ≡ answer (verdict c.args.text.now c.args.rows.now) = search rules in
+    judged c.args.text.now c.args.rows.now (Ok tt) e
