@@ -35,6 +35,7 @@ impl<'t, 'r> CheckedSheet<'t, 'r> {
     }
 
     // Makes this the sheet of the rows over the text, or leaves it as it was where they break a rule.
+    #[tactic(auto, using(crate::proofs::Whole::judged))]
     pub fn fill(&mut self, text: &'t [u8], rows: &'r [Row]) -> Result<(), SheetRefusal>
         ensures told { as_told sheet_told result ≡ as_told sheet_told (answer (verdict text.now rows.now)) }
         ensures result { result ≡ answer (verdict text.now rows.now) }

@@ -2,7 +2,7 @@
 ghost use Rattle.std.specs.Prelude.{◌≡◌, ◌<◌, ◌≤◌, true, length, min, IfOk};
 ghost use Rattle.told.specs.Answers.{as_told};
 ghost use Rattle.sheet_text.specs.Refusals.{sheet_told};
-ghost use Rattle.sheet_text.specs.Rows.{headed, lines_of, lines_from, laid};
+ghost use Rattle.sheet_text.specs.Rows.{lines_of, lines_from, laid};
 ghost use Rattle.sheet_text.specs.LineFaults.{ReadsLines};
 
 use super::cursor::Cursor;
@@ -11,13 +11,6 @@ use super::row::Row;
 
 // The first line of every sheet.
 const HEADER: &[u8] = b"row,word,name,one,two,three\n";
-
-fn has_header(text: &[u8]) -> bool
-    ensures is { result ≡ headed text.now }
-    ensures within { result ≡ true → 28 ≤ length text.now }
-{
-    text.starts_with(HEADER)
-}
 
 // The most rows that a sheet may have.
 pub const MAX_ROWS: usize = 256;
@@ -31,13 +24,13 @@ pub fn read_rows(text: &[u8], table: &mut [Row]) -> Result<usize, SheetRefusal>
     ensures within { IfOk result (λ n. n ≤ length table.old) }
     ensures reads { ReadsLines text.now table.old table.new result }
 {
-    if !has_header(text) {
+    let Some(lines) = text.strip_prefix(HEADER) else {
         return Err(SheetRefusal {
             reason: Reason::Header,
             line: 1,
         });
-    }
-    if text.len() == HEADER.len() {
+    };
+    if lines.is_empty() {
         return Err(SheetRefusal {
             reason: Reason::Count,
             line: 1,
