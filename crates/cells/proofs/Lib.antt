@@ -1,6 +1,6 @@
 pub mod Nths
 pub mod Meanings
-pub mod Spreads
+pub mod Lents
 pub mod Captures
 pub mod Faults
 pub mod Tells

@@ -1,5 +1,5 @@
 -- The words in which a source's promises are made.
-use Rattle.std.specs.Prelude.{◌≡◌, ℕ, ◌+◌, ◌*◌, ◌/◌, ◌%◌, ◌≤◌, cond, List, [], ◌∷◌, map, length, take, drop, Some, None, Ok, Err, Option, Result, ◌==◌}
+use Rattle.std.specs.Prelude.{◌≡◌, ℕ, ◌/◌, ◌%◌, ◌≤◌, List, [], ◌∷◌, map, length, take, drop, Some, None, Ok, Err, Option, Result}
 use Rattle.std.specs.List.{slice_get}
 use Rattle.told.specs.Answers.{Answer, given, refused, as_told}
 use Rattle.cells.specs.Refusals.{past_end, lost_cell, read_told}
@@ -72,12 +72,9 @@ high w = w / 256 % 256
 abbrev pub low : ℕ → ℕ
 low w = w % 256
 
--- the byte of a word that is cell k, and the word with b for that byte
-abbrev pub half_of : ℕ → ℕ → ℕ
-half_of k w = cond (k % 2 == 0) (high w) (low w)
-
-abbrev pub with_half : ℕ → ℕ → ℕ → ℕ
-with_half k b w = cond (k % 2 == 0) (b * 256 + low w) (high w * 256 + b)
+-- the bytes of a word, the high one first
+abbrev pub word_bytes : ℕ → List ℕ
+word_bytes w = high w ∷ (low w ∷ [])
 
 abbrev pub spread : List ℕ → List Cell
 spread [] = []

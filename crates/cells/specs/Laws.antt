@@ -1,41 +1,72 @@
 -- The messages of the bottoms keep the law of a message.
-use Rattle.std.specs.Prelude.{◌≡◌, ℕ, zero, suc, ◌+◌, ◌*◌, ◌/◌, ◌≤◌, min, List, [], ◌∷◌, map, length, take, refl}
-use Rattle.std.proofs.Common.{ap, ◌∙◌, arith, length-take}
+use Rattle.std.specs.Prelude.{◌≡◌, ℕ, zero, suc, ◌+◌, ◌*◌, ◌/◌, ◌≤◌, min, List, [], ◌∷◌, map, length, take, drop, refl}
+use Rattle.std.specs.List.{flat_map}
+use Rattle.std.proofs.Common.{sym, ap, ◌∙◌, subst, arith, length-take, length-append}
+use Rattle.cells.specs.declared.cell.Cell.{Cell}
+use Rattle.cells.specs.Lent.{unit_cells, UnitLaws}
+use Rattle.std.proofs.Math.Nat.{suc-mul, mul-le-mul_right, div-mul-le_self}
 use Rattle.std.proofs.lemmas.List.{length-map}
 use Rattle.cells.specs.declared.cell.Cell.TheVariants.{Byte}
 use Rattle.cells.specs.Captured.{cell_of, pair_cells, capture_cells}
 use Rattle.cells.specs.Hex.{pair_of}
 use Rattle.cells.specs.declared.hex.Pair.{Pair}
 use Rattle.cells.specs.declared.hex.Pair.TheVariants.{Digits, Dashes, Bad}
-use Rattle.cells.specs.Cells.{MarkFits, MarksFit, Lawful, byte_cells, spread, word_cells}
-
-pub bytes_length : (bs : List ℕ) → length (byte_cells bs) ≡ min 65535 (length bs)
-unfolding byte_cells
-bytes_length bs = length-map (take 65535 bs) Byte ∙ length-take 65535 bs
+use Rattle.cells.specs.Cells.{MarkFits, MarksFit, Lawful, byte_cells, byte_spares, high, low, word_bytes, spread, word_cells, word_spares}
 
 marks_fit : (bs : List ℕ) → MarksFit (map Byte bs)
 marks_fit [] = tt
 marks_fit (b ∷ bs) = (tt, marks_fit bs)
 
-pub bytes_lawful : (bs : List ℕ) → Lawful (byte_cells bs)
-unfolding byte_cells
-bytes_lawful bs = record { bounded = omega (arith, bytes_length bs); marked = marks_fit (take 65535 bs) }
+-- the messages of lent units
+module _ {U : Type 0} {bytes : U → List ℕ} {width : ℕ} {cells spares : List U → List Cell} (laws : UnitLaws bytes width cells spares) where
+  pub length_bytes : (us : List U) → length (flat_map bytes us) ≡ length us * width
+  length_bytes [] = omega arith
+  length_bytes (u ∷ us) = omega (arith, length-append (bytes u) (flat_map bytes us), laws.each u, length_bytes us, suc-mul (length us) width)
 
-pub length_spread : (ws : List ℕ) → length (spread ws) ≡ length ws * 2
-length_spread [] = refl
-length_spread (w ∷ ws) = omega (arith, length_spread ws)
+  pub lent_length : (us : List U) → length (cells us) ≡ min (65535 / width) (length us) * width
+  lent_length us =
+      let ours = take (65535 / width) us in
+      ap length (laws.counted us) ∙ length-map (flat_map bytes ours) Byte ∙ length_bytes ours ∙ ap (λ n. n * width) (length-take (65535 / width) us)
 
-pub words_length : (ws : List ℕ) → length (word_cells ws) ≡ min 32767 (length ws) * 2
-unfolding word_cells
-words_length ws = length_spread (take 32767 ws) ∙ ap (λ n. n * 2) (length-take 32767 ws)
+  lent_bounded : (us : List U) → length (cells us) ≤ 65535
+  lent_bounded us =
+      let fewer : min (65535 / width) (length us) ≤ 65535 / width = omega arith in
+      omega (arith, lent_length us, mul-le-mul_right width fewer, div-mul-le_self 65535 width)
 
-marks_spread : (ws : List ℕ) → MarksFit (spread ws)
-marks_spread [] = tt
-marks_spread (w ∷ ws) = (tt, (tt, marks_spread ws))
+  pub lent_lawful : (us : List U) → Lawful (cells us)
+  lent_lawful us =
+      record {
+        bounded = lent_bounded us;
+        marked = subst MarksFit (sym (laws.counted us)) (marks_fit (flat_map bytes (take (65535 / width) us)));
+      }
 
-pub words_lawful : (ws : List ℕ) → Lawful (word_cells ws)
-unfolding word_cells
-words_lawful ws = record { bounded = omega (arith, words_length ws); marked = marks_spread (take 32767 ws) }
+bytes_flat : (bs : List ℕ) → bs ≡ flat_map (λ b. b ∷ []) bs
+bytes_flat [] = refl
+bytes_flat (b ∷ bs) = ap (λ cs. b ∷ cs) (bytes_flat bs)
+
+pub byte_laws : UnitLaws (λ b. b ∷ []) 1 byte_cells byte_spares
+unfolding byte_cells byte_spares
+byte_laws =
+    record {
+      wide = omega arith;
+      each = λ b. refl;
+      counted = λ bs. ap (map Byte) (bytes_flat (take 65535 bs));
+      spared = λ bs. ap (map Byte) (bytes_flat (drop 65535 bs));
+    }
+
+words_flat : (ws : List ℕ) → spread ws ≡ unit_cells word_bytes ws
+words_flat [] = refl
+words_flat (w ∷ ws) = ap (λ cs. Byte (high w) ∷ (Byte (low w) ∷ cs)) (words_flat ws)
+
+pub word_laws : UnitLaws word_bytes 2 word_cells word_spares
+unfolding word_cells word_spares
+word_laws =
+    record {
+      wide = omega arith;
+      each = λ w. refl;
+      counted = λ ws. words_flat (take 32767 ws);
+      spared = λ ws. words_flat (drop 32767 ws);
+    }
 
 mark_of : (i : ℕ) (p : Pair) → i ≤ 65534 → MarkFits (cell_of i p)
 mark_of i (Digits b) h = tt

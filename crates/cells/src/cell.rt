@@ -31,11 +31,11 @@ pub struct CaptureFault {
     pub place: usize,
 }
 
-impl ReadFault {
-    pub fn told(self) -> Told
-        ensures { result ≡ read_told self }
-    {
-        match self {
+impl From<ReadFault> for Told {
+    ghost from_gives = { λ e r. r ≡ read_told e };
+
+    fn from(fault: ReadFault) -> Told {
+        match fault {
             ReadFault::PastEnd(k) => Told {
                 place: Some(k as u64),
                 ..Told::bare(31)
@@ -49,12 +49,12 @@ impl ReadFault {
     }
 }
 
-impl CaptureFault {
-    pub fn told(self) -> Told
-        ensures { result ≡ capture_told self }
-    {
+impl From<CaptureFault> for Told {
+    ghost from_gives = { λ e r. r ≡ capture_told e };
+
+    fn from(fault: CaptureFault) -> Told {
         Told {
-            place: Some(self.place as u64),
+            place: Some(fault.place as u64),
             ..Told::bare(32)
         }
     }

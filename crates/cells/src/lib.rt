@@ -1,10 +1,10 @@
 // Cells, sources of them, stores that can be written, and the bottoms: bytes, words and captures.
 #![tactic(auto)]
 
-mod answers;
 pub mod bytes;
 pub mod capture;
 pub mod cell;
 mod hex;
+pub mod lent;
 pub mod source;
 pub mod words;

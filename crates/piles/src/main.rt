@@ -11,6 +11,7 @@ use layers::join::Join;
 use layers::swap::Swap;
 use layers::window::Window;
 use std::io;
+use told::Told;
 
 mod deep;
 
@@ -18,7 +19,7 @@ fn show(rt: &HostRuntime, answer: Result<u8, ReadFault>) -> io::Result<()> {
     match answer {
         Ok(byte) => println!(rt; "  {byte:02x}"),
         Err(fault) => {
-            let told = fault.told();
+            let told = Told::from(fault);
             let number = told.number;
             match (told.place, told.lost, told.layers) {
                 (Some(k), _, _) => println!(rt; "  refused with {number}: no cell {k}"),
