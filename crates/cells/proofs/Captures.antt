@@ -1,15 +1,14 @@
 -- The pairs of a capture, read and checked.
-use Rattle.std.proofs.Common.{◌≡◌, ℕ, zero, suc, ◌+◌, ◌*◌, ◌/◌, ◌<◌, ◌≤◌, min, List, [], ◌∷◌, length, get_or, drop, IfSome, Some, None, Option, sym, refl, ap, ◌∙◌, ⊎_elim, add-zero, add-one, arith}
+use Rattle.std.proofs.Common.{◌≡◌, ℕ, zero, suc, ◌+◌, ◌-◌, ◌*◌, ◌/◌, ◌<◌, List, [], ◌∷◌, length, get_or, take, drop, Some, Option, Result, sym, ap, ◌∙◌, add-zero, arith}
 use Rattle.std.specs.List.{slice_get}
-use Rattle.std.specs.Option.{option_map}
-use Rattle.std.proofs.lemmas.List.{drop_more, drop_all}
-use Rattle.std.proofs.lemmas.Option.{slice_get_past}
-use Rattle.std.proofs.lemmas.Bool.{cases_lt}
 use Rattle.cells.specs.declared.hex.Pair.{Pair}
-use Rattle.cells.specs.declared.hex.Pair.TheVariants.{Digits, Dashes, Bad}
-use Rattle.cells.specs.Hex.{pair_of}
-use Rattle.cells.specs.Captured.{cell_of, pair_at, pair_cells, capture_cells, or_bad, bad_from}
+use Rattle.cells.specs.Hex.{pair_of, pair_in}
+use Rattle.cells.specs.Captured.{cell_of, pair_at, pair_cells, capture_cells}
+use Rattle.cells.specs.declared.cell.ReadFault.{ReadFault}
+use Rattle.cells.specs.Cells.{Answers, answered}
 use Rattle.cells.specs.Laws.{capture_length}
+use Rattle.cells.proofs.Digits.{pair_cut}
+use Rattle.cells.proofs.Tells.{answers}
 use Rattle.cells.proofs.Nths.{nth_take}
 
 pairs_nth : (i k : ℕ) (t : List ℕ) → k < length t / 2 → slice_get (pair_cells i t) k ≡ Some (cell_of (i + k) (pair_at t k))
@@ -27,48 +26,19 @@ pairs_nth i (suc k) (x ∷ (y ∷ t)) h =
     ∙ ap (λ m. Some (cell_of (i + suc k) (pair_of (get_or s (2 * suc k) 0) (get_or s m 0)))) q
 
 -- cell k of a text
-pub pair_cell :
-    (t : List ℕ) (k : ℕ) (o : Option Pair) → (k < min 65535 (length t / 2) → o ≡ Some (pair_at t k)) → (min 65535 (length t / 2) ≤ k → o ≡ None) →
-    slice_get (capture_cells t) k ≡ option_map (cell_of k) o
+pub pair_cell : (t : List ℕ) (k : ℕ) → k < length (capture_cells t) → slice_get (capture_cells t) k ≡ Some (cell_of k (pair_at t k))
 unfolding capture_cells
-pair_cell t k o within past =
+pair_cell t k h =
     let z : 0 + k ≡ k = omega arith in
-    ⊎_elim
-    (λ (h : k < min 65535 (length t / 2)).
-    nth_take 65535 (pair_cells 0 t) k (omega arith) ∙ pairs_nth 0 k t (omega arith) ∙ ap (λ j. Some (cell_of j (pair_at t k))) z
-    ∙ ap (option_map (cell_of k)) (sym (within h)))
-    (λ (h : min 65535 (length t / 2) ≤ k).
-    slice_get_past (capture_cells t) k (omega (arith, capture_length t)) ∙ ap (option_map (cell_of k)) (sym (past h)))
-    (cases_lt k (min 65535 (length t / 2)))
+    nth_take 65535 (pair_cells 0 t) k (omega (arith, capture_length t))
+    ∙ pairs_nth 0 k t (omega (arith, capture_length t))
+    ∙ ap (λ j. Some (cell_of j (pair_at t k))) z
 
-pub few_pairs : (t : List ℕ) (k : ℕ) (o : Option Pair) → (min 65535 (length t / 2) ≤ k → o ≡ None) → IfSome o (λ _. k < 65535)
-few_pairs t k None past = tt
-few_pairs t k (Some p) past =
-    ⊎_elim
-    (λ (h : k < min 65535 (length t / 2)). omega arith)
-    (λ (h : min 65535 (length t / 2) ≤ k). absurd (let e = past h in let w : ◌≡◌ {A = ℕ} 0 1 = cc in omega arith))
-    (cases_lt k (min 65535 (length t / 2)))
-
--- one pair further on
-pub bad_more :
-    (t : List ℕ) (i : ℕ) → i < length t / 2 → bad_from i (drop (2 * i) t) ≡ or_bad i (pair_at t i) (bad_from (i + 1) (drop (2 * (i + 1)) t))
-bad_more t i h =
-    let one = drop_more t (2 * i) 0 (omega arith) in
-    let two = drop_more t (2 * i + 1) 0 (omega arith) in
-    let e : 2 * i + 1 + 1 ≡ 2 * (i + 1) = omega arith in
-    ap (bad_from i) (one ∙ ap (λ s. get_or t (2 * i) 0 ∷ s) two)
-    ∙ ap (λ n. or_bad i (pair_at t i) (bad_from (suc i) (drop n t))) e
-    ∙ ap (λ n. or_bad i (pair_at t i) (bad_from n (drop (2 * (i + 1)) t))) (sym (add-one i))
-
-pub good_pair : (i : ℕ) (p : Pair) (r : Option ℕ) → (p ≡ Bad → ⊥) → or_bad i p r ≡ r
-good_pair i (Digits b) r good = refl
-good_pair i Dashes r good = refl
-good_pair i Bad r good = absurd (good refl)
-
-pub bad_cut : (t : List ℕ) (i : ℕ) → length t ≡ 2 * i + 1 → bad_from i (drop (2 * i) t) ≡ Some (2 * i)
-bad_cut t i e =
-    ap (bad_from i)
-    (drop_more t (2 * i) 0 (omega arith) ∙ ap (λ s. get_or t (2 * i) 0 ∷ s) (drop_all (2 * i + 1) t (omega arith)))
-
-pub bad_none : (t : List ℕ) (i : ℕ) → length t ≡ 2 * i → bad_from i (drop (2 * i) t) ≡ None
-bad_none t i e = ap (bad_from i) (drop_all (2 * i) t (omega arith))
+pub pair_answers :
+    (t : List ℕ) (k : ℕ) (p : Option Pair) (r : Result ℕ ReadFault) → k < length (capture_cells t) →
+    p ≡ pair_in (take (2 * k + 2 - 2 * k) (drop (2 * k) t)) →
+    r ≡ answered k (Some (cell_of k p)) → Answers (capture_cells t) k r
+pair_answers t k p r h is e =
+    let two : 2 * k + 2 - 2 * k ≡ 2 = omega arith in
+    let at : p ≡ pair_at t k = is ∙ ap (λ n. pair_in (take n (drop (2 * k) t))) two ∙ pair_cut t k (omega (arith, capture_length t)) in
+    answers (e ∙ ap (λ q. answered k (Some (cell_of k q))) at ∙ ap (answered k) (sym (pair_cell t k h)))

@@ -5,13 +5,14 @@ use Rattle.std.specs.Option.{option_map}
 use Rattle.std.proofs.lemmas.List.{map-set, drop-set-lt, set-append_left, set-append_right}
 use Rattle.std.proofs.lemmas.Option.{slice_get-map, slice_get-get_or}
 use Rattle.std.proofs.Math.Nat.{suc-mul}
+use Rattle.std.proofs.Math.Seq.{take-set-lt}
 use Rattle.std.proofs.lemmas.Nat.{div_below, mod_below, div-add-mod'}
 use Rattle.cells.specs.declared.cell.Cell.{Cell}
 use Rattle.cells.specs.declared.cell.Cell.TheVariants.{Byte}
 use Rattle.cells.specs.Cells.{Answers, answered, NoneLost}
 use Rattle.cells.specs.Lent.{unit_cells, UnitLaws}
 use Rattle.cells.specs.Laws.{lent_length}
-use Rattle.cells.proofs.Nths.{nth_left, nth_right, nth_take, take_set_in}
+use Rattle.cells.proofs.Nths.{nth_left, nth_right, nth_take}
 use Rattle.cells.proofs.Meanings.{none_lost}
 use Rattle.cells.proofs.Tells.{answers}
 
@@ -89,7 +90,7 @@ module _ {U : Type 0} {bytes : U → List ℕ} {width : ℕ} {cells spares : Lis
         pub lent_after : cells (set us (k / width) u') ≡ set (cells us) k (Byte b)
         lent_after =
             laws.counted (set us (k / width) u')
-            ∙ ap (unit_cells bytes) (take_set_in (65535 / width) us (k / width) u')
+            ∙ ap (unit_cells bytes) (take-set-lt (65535 / width) us (k / width) u' (omega (arith, counts)))
             ∙ ap (map Byte) (bytes_set (take (65535 / width) us) (k / width) (k % width) (get_or us (k / width) d) u' b among byte_within wrote)
             ∙ map-set Byte (flat_map bytes (take (65535 / width) us)) (k / width * width + k % width) b
             ∙ ap (λ i. set (unit_cells bytes (take (65535 / width) us)) i (Byte b)) (div-add-mod' k width)

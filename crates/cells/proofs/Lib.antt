@@ -1,6 +1,7 @@
 pub mod Nths
 pub mod Meanings
 pub mod Lents
+pub mod Digits
 pub mod Captures
 pub mod Faults
 pub mod Tells

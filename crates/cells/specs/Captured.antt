@@ -5,20 +5,20 @@ use Rattle.cells.specs.declared.cell.Cell.TheVariants.{Byte, Lost}
 use Rattle.cells.specs.declared.cell.CaptureFault.{CaptureFault}
 use Rattle.cells.specs.declared.capture.Capture.{Capture}
 use Rattle.cells.specs.declared.hex.Pair.{Pair}
-use Rattle.cells.specs.declared.hex.Pair.TheVariants.{Digits, Dashes, Bad}
+use Rattle.cells.specs.declared.hex.Pair.TheVariants.{Digits, Dashes}
 use Rattle.told.specs.Answers.{Answer, given, refused}
 use Rattle.cells.specs.Refusals.{bad_pair, capture_told}
 use Rattle.cells.specs.Hex.{pair_of}
 
--- pair number i of a text
-abbrev pub pair_at : List ℕ → ℕ → Pair
+-- pair number i of a text, unless it is bad
+abbrev pub pair_at : List ℕ → ℕ → Option Pair
 pair_at t i = pair_of (slice_index t (2 * i)) (slice_index t (2 * i + 1))
 
 -- pair number i as a cell. No opened capture has a bad pair
-abbrev pub cell_of : ℕ → Pair → Cell
-cell_of i (Digits b) = Byte b
-cell_of i Dashes = Lost (record { place = i; layers = 0 })
-cell_of i Bad = Lost (record { place = i; layers = 0 })
+abbrev pub cell_of : ℕ → Option Pair → Cell
+cell_of i (Some (Digits b)) = Byte b
+cell_of i (Some Dashes) = Lost (record { place = i; layers = 0 })
+cell_of i None = Lost (record { place = i; layers = 0 })
 
 -- the cells of a text whose first pair has the number i
 abbrev pub pair_cells : ℕ → List ℕ → List Cell
@@ -30,10 +30,9 @@ pair_cells i (x ∷ (y ∷ t)) = cell_of i (pair_of x y) ∷ pair_cells (suc i) 
 unfoldable pub capture_cells : List ℕ → List Cell
 capture_cells t = take 65535 (pair_cells 0 t)
 
-abbrev pub or_bad : ℕ → Pair → Option ℕ → Option ℕ
-or_bad i Bad rest = Some (2 * i)
-or_bad i Dashes rest = rest
-or_bad i (Digits b) rest = rest
+abbrev pub or_bad : ℕ → Option Pair → Option ℕ → Option ℕ
+or_bad i None rest = Some (2 * i)
+or_bad i (Some p) rest = rest
 
 -- the place of the first bad or cut pair of a text whose first pair has the number i
 abbrev pub bad_from : ℕ → List ℕ → Option ℕ
@@ -56,7 +55,7 @@ capture_answer (Err e) = refused (capture_told e)
 
 -- pair number i begins in the text, and is cut or bad
 abbrev pub PairFault : List ℕ → ℕ → Type 0
-PairFault t i = (2 * i < length t) × ((length t ≡ 2 * i + 1) ⊎ (pair_at t i ≡ Bad))
+PairFault t i = (2 * i < length t) × ((length t ≡ 2 * i + 1) ⊎ (pair_at t i ≡ None))
 
 -- the pair that begins at place p is the first that is cut or bad
 pub record FirstFault (t : List ℕ) (p : ℕ) : Type 0 where

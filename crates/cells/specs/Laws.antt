@@ -1,5 +1,5 @@
 -- The messages of the bottoms keep the law of a message.
-use Rattle.std.specs.Prelude.{◌≡◌, ℕ, zero, suc, ◌+◌, ◌*◌, ◌/◌, ◌≤◌, min, List, [], ◌∷◌, map, length, take, drop, refl}
+use Rattle.std.specs.Prelude.{◌≡◌, ℕ, zero, suc, ◌+◌, ◌*◌, ◌/◌, ◌≤◌, min, List, [], ◌∷◌, map, length, take, drop, Some, None, Option, refl}
 use Rattle.std.specs.List.{flat_map}
 use Rattle.std.proofs.Common.{sym, ap, ◌∙◌, subst, arith, length-take, length-append}
 use Rattle.cells.specs.declared.cell.Cell.{Cell}
@@ -10,7 +10,7 @@ use Rattle.cells.specs.declared.cell.Cell.TheVariants.{Byte}
 use Rattle.cells.specs.Captured.{cell_of, pair_cells, capture_cells}
 use Rattle.cells.specs.Hex.{pair_of}
 use Rattle.cells.specs.declared.hex.Pair.{Pair}
-use Rattle.cells.specs.declared.hex.Pair.TheVariants.{Digits, Dashes, Bad}
+use Rattle.cells.specs.declared.hex.Pair.TheVariants.{Digits, Dashes}
 use Rattle.cells.specs.Cells.{MarkFits, MarksFit, Lawful, byte_cells, byte_spares, high, low, word_bytes, spread, word_cells, word_spares}
 
 marks_fit : (bs : List ℕ) → MarksFit (map Byte bs)
@@ -68,10 +68,10 @@ word_laws =
       spared = λ ws. words_flat (drop 32767 ws);
     }
 
-mark_of : (i : ℕ) (p : Pair) → i ≤ 65534 → MarkFits (cell_of i p)
-mark_of i (Digits b) h = tt
-mark_of i Dashes h = (h, omega arith)
-mark_of i Bad h = (h, omega arith)
+mark_of : (i : ℕ) (p : Option Pair) → i ≤ 65534 → MarkFits (cell_of i p)
+mark_of i (Some (Digits b)) h = tt
+mark_of i (Some Dashes) h = (h, omega arith)
+mark_of i None h = (h, omega arith)
 
 -- pair number i is the first of at most n
 marks_pairs : (n i : ℕ) (t : List ℕ) → i + n ≤ 65535 → MarksFit (take n (pair_cells i t))

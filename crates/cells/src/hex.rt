@@ -1,36 +1,27 @@
 // One pair of characters of a hex capture.
-ghost use Rattle.std.specs.Prelude.{◌≡◌, ◌<◌, IfSome};
-ghost use Rattle.cells.specs.Hex.{hex_digit, pair_of};
+ghost use Rattle.std.specs.Prelude.{◌≡◌};
+ghost use Rattle.cells.specs.Hex.{pair_in};
 
+// Kept as an enum of its own, and no Option: `--` says something, and `None` is no pair at all.
 #[derive(Clone, Copy)]
 pub enum Pair {
     // two hexadecimal digits, and their byte
     Digits(u8),
     // `--`, a lost cell
     Dashes,
-    Bad,
 }
 
-fn hex_digit(c: u8) -> Option<u8>
-    ensures value { result ≡ hex_digit c }
-    ensures small { IfSome result (λ d. d < 16) }
+// The pair that these characters are, unless it is bad or cut.
+pub fn read_pair(pair: &[u8]) -> Option<Pair>
+    ensures { result ≡ pair_in pair.now }
 {
-    match c {
-        b'0'..=b'9' => Some(c - b'0'),
-        b'a'..=b'f' => Some(c - b'a' + 10),
-        b'A'..=b'F' => Some(c - b'A' + 10),
-        _ => None,
+    let [x, y] = pair else {
+        return None;
+    };
+    if *x == b'-' && *y == b'-' {
+        return Some(Pair::Dashes);
     }
-}
-
-pub fn read_pair(x: u8, y: u8) -> Pair
-    ensures { result ≡ pair_of x y }
-{
-    if x == b'-' && y == b'-' {
-        return Pair::Dashes;
-    }
-    match (hex_digit(x), hex_digit(y)) {
-        (Some(h), Some(l)) => Pair::Digits(h * 16 + l),
-        _ => Pair::Bad,
-    }
+    let high = char::from(*x).to_digit(16)?;
+    let low = char::from(*y).to_digit(16)?;
+    Some(Pair::Digits((high * 16 + low) as u8))
 }

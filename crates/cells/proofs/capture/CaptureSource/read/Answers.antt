@@ -1,13 +1,9 @@
-use Rattle.std.proofs.Common.{sym, ap, ◌∙◌}
-use Rattle.cells.specs.Cells.{answered}
-use Rattle.cells.proofs.Captures.{pair_cell, few_pairs}
-use Rattle.cells.proofs.Tells.{answers}
+use Rattle.std.proofs.Common.{rules, arith}
+use Rattle.cells.proofs.Captures.{pair_answers}
 use Rattle.cells.proofs.capture.CaptureSource.read.Goals as goal
 
-pub pair_answer-requires : goal.pair_answer-requires
-pair_answer-requires c = few_pairs c.args.self.now.text.now c.args.k c.pair_at.result c.pair_at.ensures.past
+pub returns-in-Some-Digits : goal.returns-in-Some-Digits
+returns-in-Some-Digits c = pair_answers c.args.self.now.text.now c.args.k c.read_pair.result _ (omega arith) c.read_pair.ensures (search rules)
 
-pub returns : goal.returns
-returns c =
-    let at = c.pair_at.ensures in
-    answers (c.pair_answer.ensures ∙ ap (answered c.args.k) (sym (pair_cell c.args.self.now.text.now c.args.k c.pair_at.result at.within at.past)))
+pub returns-in-Some-Dashes : goal.returns-in-Some-Dashes
+returns-in-Some-Dashes c = pair_answers c.args.self.now.text.now c.args.k c.read_pair.result _ (omega arith) c.read_pair.ensures (search rules)
