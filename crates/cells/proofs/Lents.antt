@@ -1,5 +1,5 @@
 -- The bytes of lent units, read and written.
-use Rattle.std.proofs.Common.{◌≡◌, ℕ, zero, suc, ◌+◌, ◌-◌, ◌*◌, ◌/◌, ◌%◌, ◌<◌, min, List, [], ◌∷◌, ◌++◌, map, length, get_or, take, set, Some, Ok, sym, refl, ap, ◌∙◌, subst, arith}
+use Rattle.std.proofs.Common.{◌≡◌, ℕ, zero, suc, ◌+◌, ◌-◌, ◌*◌, ◌/◌, ◌%◌, ◌<◌, min, List, [], ◌∷◌, ◌++◌, map, length, get_or, take, set, Some, Ok, sym, refl, ap, ◌∙◌, arith}
 use Rattle.std.specs.List.{slice_get, flat_map}
 use Rattle.std.specs.Option.{option_map}
 use Rattle.std.proofs.lemmas.List.{map-set, drop-set-lt, set-append_left, set-append_right}
@@ -9,11 +9,10 @@ use Rattle.std.proofs.Math.Seq.{take-set-lt}
 use Rattle.std.proofs.lemmas.Nat.{div_below, mod_below, div-add-mod'}
 use Rattle.cells.specs.declared.cell.Cell.{Cell}
 use Rattle.cells.specs.declared.cell.Cell.TheVariants.{Byte}
-use Rattle.cells.specs.Cells.{Answers, answered, NoneLost}
+use Rattle.cells.specs.Cells.{Answers, answered}
 use Rattle.cells.specs.Lent.{unit_cells, UnitLaws}
 use Rattle.cells.specs.Laws.{lent_length}
 use Rattle.cells.proofs.Nths.{nth_left, nth_right, nth_take}
-use Rattle.cells.proofs.Meanings.{none_lost}
 use Rattle.cells.proofs.Tells.{answers}
 
 module _ {U : Type 0} {bytes : U → List ℕ} {width : ℕ} {cells spares : List U → List Cell} (laws : UnitLaws bytes width cells spares) where
@@ -52,9 +51,6 @@ module _ {U : Type 0} {bytes : U → List ℕ} {width : ℕ} {cells spares : Lis
       ap (λ bs. bytes v ++ bs) (bytes_set us i j u u' b e h w)
       ∙ ap (λ m. bytes v ++ set (flat_map bytes us) m b) (sym k)
       ∙ sym (set-append_right (bytes v) (flat_map bytes us) n (suc i * width + j) b refl (omega (arith, past_one v i j)))
-
-  pub lent_whole : (us : List U) → NoneLost (cells us)
-  lent_whole us = subst NoneLost (sym (laws.counted us)) (none_lost (flat_map bytes (take (65535 / width) us)))
 
   module _ (us : List U) (k : ℕ) (within : k < length (cells us)) where
     -- the unit of cell k counts

@@ -1,5 +1,5 @@
 -- What reads and writes do to the cells that a source means.
-use Rattle.std.proofs.Common.{◌≡◌, ℕ, zero, suc, ◌<◌, ◌≤◌, List, [], ◌∷◌, map, length, Ok, Err, ap, ◌∙◌, ⊎_elim, suc-le-suc, zero-le, arith}
+use Rattle.std.proofs.Common.{◌≡◌, ℕ, zero, suc, ◌<◌, ◌≤◌, List, [], ◌∷◌, length, Ok, Err, ap, ◌∙◌, ⊎_elim, suc-le-suc, zero-le, arith}
 use Rattle.std.proofs.lemmas.Bool.{cases_lt}
 use Rattle.cells.specs.declared.cell.ReadFault.{ReadFault}
 use Rattle.std.specs.List.{slice_get}
@@ -11,10 +11,6 @@ use Rattle.cells.specs.Cells.{read_at, answered, NoneLost}
 
 pub read_past : (cs : List Cell) (k : ℕ) → length cs ≤ k → read_at cs k ≡ Err (PastEnd k)
 read_past cs k h = ap (answered k) (slice_get_past cs k h)
-
-pub none_lost : (bs : List ℕ) → NoneLost (map Byte bs)
-none_lost [] = tt
-none_lost (b ∷ bs) = (tt, none_lost bs)
 
 pub read_ok_below : (cs : List Cell) (k b : ℕ) → Ok b ≡ read_at cs k → k < length cs
 read_ok_below cs k b e =

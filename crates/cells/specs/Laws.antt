@@ -11,11 +11,15 @@ use Rattle.cells.specs.Captured.{cell_of, pair_cells, capture_cells}
 use Rattle.cells.specs.Hex.{pair_of}
 use Rattle.cells.specs.declared.hex.Pair.{Pair}
 use Rattle.cells.specs.declared.hex.Pair.TheVariants.{Digits, Dashes}
-use Rattle.cells.specs.Cells.{MarkFits, MarksFit, Lawful, byte_cells, byte_spares, high, low, word_bytes, spread, word_cells, word_spares}
+use Rattle.cells.specs.Cells.{MarkFits, MarksFit, Lawful, NoneLost, byte_cells, byte_spares, high, low, word_bytes, spread, word_cells, word_spares}
 
 marks_fit : (bs : List ℕ) → MarksFit (map Byte bs)
 marks_fit [] = tt
 marks_fit (b ∷ bs) = (tt, marks_fit bs)
+
+none_lost : (bs : List ℕ) → NoneLost (map Byte bs)
+none_lost [] = tt
+none_lost (b ∷ bs) = (tt, none_lost bs)
 
 -- the messages of lent units
 module _ {U : Type 0} {bytes : U → List ℕ} {width : ℕ} {cells spares : List U → List Cell} (laws : UnitLaws bytes width cells spares) where
@@ -39,6 +43,9 @@ module _ {U : Type 0} {bytes : U → List ℕ} {width : ℕ} {cells spares : Lis
         bounded = lent_bounded us;
         marked = subst MarksFit (sym (laws.counted us)) (marks_fit (flat_map bytes (take (65535 / width) us)));
       }
+
+  pub lent_whole : (us : List U) → NoneLost (cells us)
+  lent_whole us = subst NoneLost (sym (laws.counted us)) (none_lost (flat_map bytes (take (65535 / width) us)))
 
 bytes_flat : (bs : List ℕ) → bs ≡ flat_map (λ b. b ∷ []) bs
 bytes_flat [] = refl

@@ -2,7 +2,7 @@
 ghost use Rattle.std.specs.Prelude.{◌≡◌, ℕ, ◌<◌, List, [], ◌∷◌, slice_index, slice_set};
 ghost use Rattle.cells.specs.declared.cell.Cell.{Cell};
 ghost use Rattle.cells.specs.Lent.{UnitLaws};
-ghost use Rattle.cells.specs.Laws.{lent_lawful};
+ghost use Rattle.cells.specs.Laws.{lent_lawful, lent_whole};
 
 use crate::cell::ReadFault;
 use crate::source::{Source, Store};
@@ -72,6 +72,8 @@ impl<'a, U: Unit> Store for Lent<'a, U> {
     ghost spares = { λ s. U.spares s.units.now };
 
     ghost fixed = { λ s. s.units.ghost_name ∷ [] };
+
+    ghost whole = { λ s. lent_whole U.laws s.units.now };
 
     fn write(&mut self, k: usize, b: u8) -> Result<u8, ReadFault> {
         if k >= self.len() {

@@ -37,4 +37,7 @@ pub trait Store: Source {
         ensures after { Self.cells self.new ≡ slice_set (Self.cells self.old) k (Byte b) }
         ensures spares { spares self.new ≡ spares self.old }
         ensures fixed { fixed self.new ≡ fixed self.old };
+
+    // what each `impl` must prove: no cell is lost
+    ghost whole: { (s : Self) → NoneLost (Self.cells s) };
 }

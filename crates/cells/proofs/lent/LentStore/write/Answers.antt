@@ -1,7 +1,8 @@
 use Rattle.std.proofs.Common.{◌/◌, ◌<◌, length, arith, rules, sym}
 use Rattle.cells.proofs.Meanings.{read_past}
 use Rattle.cells.proofs.Tells.{answers}
-use Rattle.cells.proofs.Lents.{unit_within, lent_whole, lent_read, lent_after, lent_spared}
+use Rattle.cells.specs.Laws.{lent_whole}
+use Rattle.cells.proofs.Lents.{unit_within, lent_read, lent_after, lent_spared}
 use Rattle.cells.proofs.lent.LentStore.write.Goals as goal
 
 pub returns-then-k-len-clause-whole : goal.returns-then-k-len-clause-whole
