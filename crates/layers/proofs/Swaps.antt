@@ -2,16 +2,12 @@
 use Rattle.std.proofs.Common.{◌≡◌, ℕ, zero, suc, ◌+◌, ◌%◌, ◌<◌, ◌≤◌, List, [], ◌∷◌, map, length, set, sym, refl, ap, ◌∙◌, ⊎_elim, arith}
 use Rattle.std.specs.List.{slice_get}
 use Rattle.std.specs.Option.{option_map}
-use Rattle.std.proofs.lemmas.List.{map-set, set_past}
-use Rattle.std.proofs.lemmas.Option.{slice_get_past}
+use Rattle.std.proofs.lemmas.List.{map-set}
+use Rattle.std.proofs.lemmas.Option.{slice_get-map}
 use Rattle.std.proofs.lemmas.Bool.{cases_lt}
 use Rattle.cells.specs.declared.cell.Cell.{Cell}
 use Rattle.cells.specs.declared.cell.Cell.TheVariants.{Byte}
-use Rattle.cells.specs.Cells.{NoneLost}
 use Rattle.layers.specs.Layers.{aged, swap_pairs, swapped, Partner, Stands}
-use Rattle.layers.specs.Laws.{swapped_length}
-use Rattle.cells.proofs.Nths.{nth_map}
-use Rattle.layers.proofs.Layers.{whole_aged}
 
 -- two places further on, two cells fewer
 inner : (n k at : ℕ) → Partner (suc (suc n)) (suc (suc k)) (suc (suc at)) → Partner n k at
@@ -58,37 +54,15 @@ pairs_set (x ∷ (y ∷ cs)) (suc (suc k)) (suc zero) c l p = absurd (omega (ari
 pairs_set (x ∷ (y ∷ cs)) (suc (suc k)) (suc (suc at)) c l p =
     ap (λ ds. y ∷ (x ∷ ds)) (pairs_set cs k at c (omega arith) (inner (length cs) k at p))
 
-whole_pairs : (cs : List Cell) → NoneLost cs → NoneLost (swap_pairs cs)
-whole_pairs [] w = tt
-whole_pairs (x ∷ []) w = w
-whole_pairs (x ∷ (y ∷ cs)) w = (w.1.0, (w.0, whole_pairs cs w.1.1))
-
-swap_whole : (cs : List Cell) → NoneLost cs → NoneLost (swapped cs)
-unfolding swapped
-swap_whole cs w = whole_aged (swap_pairs cs) (whole_pairs cs w)
-
 -- the place below of cell k of a swap
-module _ (cs : List Cell) (k at : ℕ) (within : k < length cs → Partner (length cs) k at)
-    (past : length cs ≤ k → 65535 ≤ at) (fits : length cs ≤ 65535) where
+module _ (cs : List Cell) (k at : ℕ) (h : k < length cs) (p : Partner (length cs) k at) where
   swap_nth : slice_get (swapped cs) k ≡ option_map aged (slice_get cs at)
   unfolding swapped
-  swap_nth =
-      ⊎_elim
-      (λ (h : k < length cs). nth_map aged (swap_pairs cs) k ∙ ap (option_map aged) (pairs_nth cs k at h (within h)))
-      (λ (h : length cs ≤ k).
-      slice_get_past (swapped cs) k (omega (arith, swapped_length cs))
-      ∙ ap (option_map aged) (sym (slice_get_past cs at (omega (arith, past h)))))
-      (cases_lt k (length cs))
+  swap_nth = slice_get-map aged (swap_pairs cs) k ∙ ap (option_map aged) (pairs_nth cs k at h p)
 
   swap_set : (b : ℕ) → swapped (set cs at (Byte b)) ≡ set (swapped cs) k (Byte b)
   unfolding swapped
-  swap_set b =
-      ⊎_elim
-      (λ (h : k < length cs). ap (map aged) (pairs_set cs k at (Byte b) h (within h)) ∙ map-set aged (swap_pairs cs) k (Byte b))
-      (λ (h : length cs ≤ k).
-      ap swapped (set_past cs at (Byte b) (omega (arith, past h)))
-      ∙ sym (set_past (swapped cs) k (Byte b) (omega (arith, swapped_length cs))))
-      (cases_lt k (length cs))
+  swap_set b = ap (map aged) (pairs_set cs k at (Byte b) h p) ∙ map-set aged (swap_pairs cs) k (Byte b)
 
-  pub swap_stands : Stands swapped cs k at
-  swap_stands = record { read = swap_nth; wrote = swap_set; whole = swap_whole cs }
+  pub swap_stands : Stands swapped (λ ds. []) cs k at
+  swap_stands = record { read = swap_nth; wrote = swap_set; spared = λ b. refl }

@@ -1,5 +1,5 @@
 -- What the layers mean.
-use Rattle.std.specs.Prelude.{◌≡◌, ℕ, ◌+◌, ◌%◌, ◌<◌, ◌≤◌, min, List, [], ◌∷◌, ◌++◌, map, length, take, drop, Ok, Err, Result, slice_set}
+use Rattle.std.specs.Prelude.{◌≡◌, ℕ, ◌+◌, ◌%◌, ◌<◌, ◌≤◌, min, List, [], ◌∷◌, ◌++◌, map, length, take, drop, Some, None, Option, Ok, Err, Result, slice_set}
 use Rattle.std.specs.List.{slice_get}
 use Rattle.std.specs.Option.{option_map}
 use Rattle.cells.specs.declared.cell.Mark.{Mark}
@@ -7,7 +7,6 @@ use Rattle.cells.specs.declared.cell.Cell.{Cell}
 use Rattle.cells.specs.declared.cell.Cell.TheVariants.{Byte, Lost}
 use Rattle.cells.specs.declared.cell.ReadFault.{ReadFault}
 use Rattle.cells.specs.declared.cell.ReadFault.TheVariants.{PastEnd, LostCell}
-use Rattle.cells.specs.Cells.{NoneLost}
 
 -- a lost mark after one more layer
 abbrev pub aged_mark : Mark → Mark
@@ -41,11 +40,16 @@ swap_pairs (x ∷ (y ∷ cs)) = y ∷ (x ∷ swap_pairs cs)
 unfoldable pub swapped : List Cell → List Cell
 swapped cs = map aged (swap_pairs cs)
 
--- cell k of a layer is cell `at` below it, one layer older, and a write there is a write here
-pub record Stands (layer : List Cell → List Cell) (below : List Cell) (k at : ℕ) : Type 0 where
+-- cell k of a layer is cell `at` below it, one layer older, and a write there is a write here, which changes nothing that the layer leaves out
+pub record Stands (layer left_out : List Cell → List Cell) (below : List Cell) (k at : ℕ) : Type 0 where
   pub read : slice_get (layer below) k ≡ option_map aged (slice_get below at)
   pub wrote : (b : ℕ) → layer (slice_set below at (Byte b)) ≡ slice_set (layer below) k (Byte b)
-  pub whole : NoneLost below → NoneLost (layer below)
+  pub spared : (b : ℕ) → left_out (slice_set below at (Byte b)) ≡ left_out below
+
+-- where cell k of a layer stands below, if there is such a cell
+abbrev pub Placed : (List Cell → List Cell) → (List Cell → List Cell) → List Cell → ℕ → Option ℕ → Type 0
+Placed layer left_out below k None = length (layer below) ≤ k
+Placed layer left_out below k (Some at) = Stands layer left_out below k at
 
 -- among n cells, `at` is the place with which k changes
 pub record Partner (n k at : ℕ) : Type 0 where
@@ -60,17 +64,3 @@ joined cs ds = map aged (take 65535 (cs ++ ds))
 -- what is cut off a join
 unfoldable pub join_spares : List Cell → List Cell → List Cell
 join_spares cs ds = drop 65535 (cs ++ ds)
-
--- behind n cells, `at` is the place of cell k, or past every end where the cells behind lack it
-pub record After (n k at : ℕ) : Type 0 where
-  pub behind : n ≤ k → k < 65535 → at + n ≡ k
-  pub ahead : k < n → 65535 ≤ at
-  pub past : 65535 ≤ k → 65535 ≤ at
-
--- cell k of a join is cell k of the first source, or cell `at` of the second; a write to each at these places is a write here
-pub record Joins (cs ds : List Cell) (k at : ℕ) : Type 0 where
-  pub ahead : k < length cs → slice_get (joined cs ds) k ≡ option_map aged (slice_get cs k)
-  pub behind : length cs ≤ k → slice_get (joined cs ds) k ≡ option_map aged (slice_get ds at)
-  pub wrote : (b : ℕ) → joined (slice_set cs k (Byte b)) (slice_set ds at (Byte b)) ≡ slice_set (joined cs ds) k (Byte b)
-  pub spared : (b : ℕ) → join_spares (slice_set cs k (Byte b)) (slice_set ds at (Byte b)) ≡ join_spares cs ds
-  pub whole : NoneLost cs → NoneLost ds → NoneLost (joined cs ds)

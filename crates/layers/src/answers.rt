@@ -14,12 +14,11 @@ pub fn passed_up(k: usize, answer: Result<u8, ReadFault>) -> Result<u8, ReadFaul
     ensures is { result ≡ passed_up k answer }
     ensures layer { (below layer : List Cell) (at : ℕ) → slice_get layer k ≡ option_map aged (slice_get below at) → Answers below at answer → Answers layer k result }
 {
-    match answer {
-        Ok(b) => Ok(b),
-        Err(ReadFault::PastEnd(_)) => Err(ReadFault::PastEnd(k)),
-        Err(ReadFault::LostCell(m)) => Err(ReadFault::LostCell(Mark {
-            place: m.place,
-            layers: m.layers.saturating_add(1),
-        })),
-    }
+    answer.map_err(|fault| match fault {
+        ReadFault::PastEnd(_) => ReadFault::PastEnd(k),
+        ReadFault::LostCell(mark) => ReadFault::LostCell(Mark {
+            place: mark.place,
+            layers: mark.layers.saturating_add(1),
+        }),
+    })
 }

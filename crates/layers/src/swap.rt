@@ -1,69 +1,59 @@
 // A swap: the two cells of each pair exchanged. The last of an odd number stays.
-ghost use Rattle.std.specs.Prelude.{◌≡◌, ◌<◌, ◌≤◌};
-ghost use Rattle.layers.specs.Layers.{swapped, Partner, Stands};
-ghost use Rattle.layers.specs.Laws.{swapped_lawful};
+ghost use Rattle.std.specs.Prelude.{◌≡◌, ◌<◌, []};
+ghost use Rattle.layers.specs.Layers.{swapped, Partner};
+ghost use Rattle.layers.specs.Laws.{swapped_length, swapped_lawful, swapped_whole};
 
-use crate::answers::passed_up;
-use cells::cell::ReadFault;
-use cells::source::{Source, Store};
+use crate::layer::{Layer, Placing};
+use cells::source::Source;
+
+pub type Swap<S> = Layer<S, Exchange>;
 
 #[derive(Drop)]
-pub struct Swap<S> {
-    below: S,
-}
+pub struct Exchange;
 
-impl<S: Source> Swap<S> {
+impl<S: Source> Layer<S, Exchange> {
     pub fn new(below: S) -> Self
-        ensures { result ≡ record { below = below } }
+        ensures { result ≡ record { below = below; placing = record {} } }
     {
-        Swap { below }
-    }
-
-    // The place below of cell k, or one past every end.
-    fn place(&self, k: usize) -> usize
-        ensures { Stands swapped (S.Source.cells self.now.below) k result }
-    {
-        partner(self.below.len(), k)
+        Layer::over(below, Exchange)
     }
 }
 
-// The place with which k changes among n cells, or one past every end.
+impl Placing for Exchange {
+    ghost layer = { λ p. swapped };
+
+    ghost count = { λ p n. n };
+
+    ghost left_out = { λ p cs. [] };
+
+    ghost numbers = { λ p. [] };
+
+    ghost counted = { λ p. swapped_length };
+
+    ghost lawful = { λ p. swapped_lawful };
+
+    ghost whole = { λ p. swapped_whole };
+
+    fn len(&self, n: usize) -> usize {
+        n
+    }
+
+    #[tactic(auto, using(crate::specs::Laws::swapped_length, crate::proofs::Swaps::swap_stands))]
+    fn place(&self, n: usize, k: usize) -> Option<usize> {
+        if k < n { Some(partner(n, k)) } else { None }
+    }
+}
+
+// The place with which k changes among n cells.
 fn partner(n: usize, k: usize) -> usize
-    ensures within { k < n → Partner n k result }
-    ensures past { n ≤ k → 65535 ≤ result }
+    requires { k < n }
+    ensures { Partner n k result }
 {
-    if k >= n {
-        usize::MAX
-    } else if k % 2 == 1 {
+    if k % 2 == 1 {
         k - 1
     } else if k + 1 < n {
         k + 1
     } else {
         k
-    }
-}
-
-impl<S: Source> Source for Swap<S> {
-    ghost cells = { λ s. swapped (S.Source.cells s.below) };
-
-    ghost lawful = { λ s. swapped_lawful (S.Source.cells s.below) (S.Source.lawful s.below) };
-
-    fn len(&self) -> usize {
-        self.below.len()
-    }
-
-    fn read(&self, k: usize) -> Result<u8, ReadFault> {
-        passed_up(k, self.below.read(self.place(k)))
-    }
-}
-
-impl<S: Store> Store for Swap<S> {
-    ghost spares = { λ s. S.Store.spares s.below };
-
-    ghost fixed = { λ s. S.Store.fixed s.below };
-
-    fn write(&mut self, k: usize, b: u8) -> Result<u8, ReadFault> {
-        let at = self.place(k);
-        passed_up(k, self.below.write(at, b))
     }
 }

@@ -1,80 +1,52 @@
 // A window: the first `count` cells of what remains below without the first `start`.
-ghost use Rattle.std.specs.Prelude.{◌≡◌, ℕ, ◌+◌, ◌-◌, ◌<◌, ◌≤◌, min, ◌∷◌, ◌++◌, slice_set};
-ghost use Rattle.cells.specs.declared.cell.Cell.TheVariants.{Byte};
-ghost use Rattle.layers.specs.Layers.{windowed, window_spares, Stands};
-ghost use Rattle.layers.specs.Laws.{windowed_lawful};
+ghost use Rattle.std.specs.Prelude.{◌≡◌, ◌-◌, min, [], ◌∷◌};
+ghost use Rattle.layers.specs.Layers.{windowed, window_spares};
+ghost use Rattle.layers.specs.Laws.{windowed_length, windowed_lawful, windowed_whole};
 
-use crate::answers::passed_up;
-use cells::cell::ReadFault;
-use cells::source::{Source, Store};
+use crate::layer::{Layer, Placing};
+use cells::source::Source;
+
+pub type Window<S> = Layer<S, Cut>;
 
 #[derive(Drop)]
-pub struct Window<S> {
-    below: S,
+pub struct Cut {
     start: usize,
     count: usize,
 }
 
-impl<S: Source> Window<S> {
+impl<S: Source> Layer<S, Cut> {
     pub fn new(below: S, start: usize, count: usize) -> Self
-        ensures { result ≡ record { below = below; start = start; count = count } }
+        ensures { result ≡ record { below = below; placing = record { start = start; count = count } } }
     {
-        Window {
-            below,
-            start,
-            count,
+        Layer::over(below, Cut { start, count })
+    }
+}
+
+impl Placing for Cut {
+    ghost layer = { λ p. windowed p.start p.count };
+
+    ghost count = { λ p n. min p.count (n - p.start) };
+
+    ghost left_out = { λ p. window_spares p.start p.count };
+
+    ghost numbers = { λ p. p.start ∷ (p.count ∷ []) };
+
+    ghost counted = { λ p. windowed_length p.start p.count };
+
+    ghost lawful = { λ p. windowed_lawful p.start p.count };
+
+    ghost whole = { λ p. windowed_whole p.start p.count };
+
+    fn len(&self, n: usize) -> usize {
+        n.saturating_sub(self.start).min(self.count)
+    }
+
+    #[tactic(auto, using(crate::specs::Laws::windowed_length))]
+    fn place(&self, n: usize, k: usize) -> Option<usize> {
+        if k < self.len(n) {
+            Some(self.start + k)
+        } else {
+            None
         }
-    }
-
-    // The place below of cell k, or one past every end.
-    fn place(&self, k: usize) -> usize
-        ensures stands { Stands (windowed self.now.start self.now.count) (S.Source.cells self.now.below) k result }
-        ensures spared { (b : ℕ) → window_spares self.now.start self.now.count (slice_set (S.Source.cells self.now.below) result (Byte b)) ≡ window_spares self.now.start self.now.count (S.Source.cells self.now.below) }
-    {
-        shifted(self.len(), self.start, k)
-    }
-}
-
-// How many of n cells a window has.
-fn shown(n: usize, start: usize, count: usize) -> usize
-    ensures { result ≡ min count (n - start) }
-{
-    n.saturating_sub(start).min(count)
-}
-
-// The place of cell k behind `start` others, or one past every end if there are only n.
-fn shifted(n: usize, start: usize, k: usize) -> usize
-    ensures within { k < n → start + k < 65536 → result ≡ start + k }
-    ensures past { n ≤ k → 65535 ≤ result }
-{
-    if k < n {
-        start.saturating_add(k)
-    } else {
-        usize::MAX
-    }
-}
-
-impl<S: Source> Source for Window<S> {
-    ghost cells = { λ s. windowed s.start s.count (S.Source.cells s.below) };
-
-    ghost lawful = { λ s. windowed_lawful s.start s.count (S.Source.cells s.below) (S.Source.lawful s.below) };
-
-    fn len(&self) -> usize {
-        shown(self.below.len(), self.start, self.count)
-    }
-
-    fn read(&self, k: usize) -> Result<u8, ReadFault> {
-        passed_up(k, self.below.read(self.place(k)))
-    }
-}
-
-impl<S: Store> Store for Window<S> {
-    ghost spares = { λ s. window_spares s.start s.count (S.Source.cells s.below) ++ S.Store.spares s.below };
-
-    ghost fixed = { λ s. s.start ∷ (s.count ∷ S.Store.fixed s.below) };
-
-    fn write(&mut self, k: usize, b: u8) -> Result<u8, ReadFault> {
-        let at = self.place(k);
-        passed_up(k, self.below.write(at, b))
     }
 }
