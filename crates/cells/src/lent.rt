@@ -7,7 +7,7 @@ ghost use Rattle.cells.specs.Laws.{lent_lawful, lent_whole};
 use crate::cell::ReadFault;
 use crate::source::{Source, Store};
 
-// What can be lent to a store.
+// What can be lent to a store. The module is private: no other crate asks a unit for a byte that it lacks.
 pub trait Unit: Copy + Drop {
     // the bytes of a unit, in order
     ghost bytes: { Self → List ℕ };

@@ -5,6 +5,6 @@ pub mod bytes;
 pub mod capture;
 pub mod cell;
 mod hex;
-pub mod lent;
+mod lent;
 pub mod source;
 pub mod words;

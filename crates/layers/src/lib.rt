@@ -3,6 +3,6 @@
 
 mod answers;
 pub mod join;
-pub mod layer;
+mod layer;
 pub mod swap;
 pub mod window;
