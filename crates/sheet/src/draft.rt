@@ -113,7 +113,10 @@ impl<'t, 'r> Draft<'t, 'r> {
     {
         for (k, row) in self.rows.iter().enumerate() {
             if !test(k, *row) {
-                return Err(SheetRefusal::at_row(reason, k));
+                return Err(SheetRefusal {
+                    reason,
+                    line: k + 2,
+                });
             }
         }
         Ok(())
@@ -130,7 +133,10 @@ impl<'t, 'r> Draft<'t, 'r> {
             });
         }
         if self.rows.len() > MAX_ROWS {
-            return Err(SheetRefusal::at_row(Reason::Count, MAX_ROWS));
+            return Err(SheetRefusal {
+                reason: Reason::Count,
+                line: MAX_ROWS + 2,
+            });
         }
         self.each_row(Reason::Column, |k, row| self.keeps_rule(k, row))?;
         self.each_row(Reason::Field, |_, row| self.fields_differ(row))?;

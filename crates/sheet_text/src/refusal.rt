@@ -32,7 +32,7 @@ pub struct SheetRefusal {
 
 impl SheetRefusal {
     // The refusal of the line that states row k.
-    pub fn at_row(reason: Reason, k: usize) -> SheetRefusal
+    pub(crate) fn at_row(reason: Reason, k: usize) -> SheetRefusal
         requires { k + 2 < 2 ^ 64 }
         ensures { result ≡ at_row reason k }
     {

@@ -20,7 +20,7 @@ unfolding verdict
 returns-then-self-gt-MAX_ROWS c =
     let text = c.args.self.now.text.now in
     let rows = c.args.self.now.rows.now in
-    ap Err c.at_row.ensures ∙ sym (ap answer (many_rows (length rows) (column_fault text rows) (field_fault text rows) (depth_fault rows) (omega arith)))
+    sym (ap answer (many_rows (length rows) (column_fault text rows) (field_fault text rows) (depth_fault rows) (omega arith)))
 
 -- what each check answered, by the lowest row that fails it
 columns : (c : After-each_row) → c.each_row.result ≡ answer (fault_or reason.Column (column_fault c.args.self.now.text.now c.args.self.now.rows.now) None)
