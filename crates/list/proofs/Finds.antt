@@ -1,37 +1,25 @@
 -- What finds the first entry in use that passes, and what was found.
-use Rattle.std.proofs.Common.{◌≡◌, ℕ, zero, suc, ◌+◌, ◌<◌, ◌≤◌, Bool, true, false, cond, ◌⊎◌, List, [], ◌∷◌, ◌++◌, length, get_or, take, drop, Some, None, Option, sym, refl, ap, ◌∙◌, inl, inr, ⊎_elim, arith, length-take}
-use Rattle.std.proofs.lemmas.List.{drop_more, drop_all, get_or-take, get_or_read}
+use Rattle.std.proofs.Common.{◌≡◌, ℕ, zero, suc, ◌+◌, ◌<◌, Bool, true, false, cond, ◌⊎◌, List, [], ◌∷◌, ◌++◌, length, get_or, drop, Some, None, Option, sym, refl, ap, ◌∙◌, inl, inr, ⊎_elim, arith}
+use Rattle.std.proofs.lemmas.List.{drop_more}
 use Rattle.std.proofs.lemmas.Bool.{cases_Bool, cond-true, cond-false}
 use Rattle.std.specs.List.{slice_get}
 use Rattle.list.specs.Contents.{first_of}
 
 module _ {X : Type 0} (p : X → Bool) where
   -- the entries from i on, of which x was read as the first
-  from_place : (n : ℕ) (xs : List X) (i : ℕ) (x : X) → i < length (take n xs) → x ≡ get_or xs i x
-      → drop i (take n xs) ≡ x ∷ drop (i + 1) (take n xs)
-  from_place n xs i x h e =
-      let k : i < n = omega (arith, length-take n xs) in
-      drop_more (take n xs) i x h ∙ ap (λ y. y ∷ drop (i + 1) (take n xs)) (get_or-take n xs i x k ∙ sym e)
+  from_place : (xs : List X) (i : ℕ) (x : X) → i < length xs → x ≡ get_or xs i x → drop i xs ≡ x ∷ drop (i + 1) xs
+  from_place xs i x h e = drop_more xs i x h ∙ ap (λ y. y ∷ drop (i + 1) xs) (sym e)
 
   -- the entry at i passes
-  pub first_here : (n : ℕ) (xs : List X) (i : ℕ) (x d : X) → i < length (take n xs) → x ≡ get_or xs i x
-      → true ≡ p (get_or xs i d) → Some x ≡ first_of p (drop i (take n xs))
-  first_here n xs i x d h e t =
-      let k : i < length xs = omega (arith, length-take n xs) in
-      let tx : p x ≡ true = ap p (get_or_read xs i x k e d) ∙ sym t in
-      sym (ap (first_of p) (from_place n xs i x h e) ∙ cond-true (p x) (Some x) (first_of p (drop (i + 1) (take n xs))) tx)
+  pub first_here : (xs : List X) (i : ℕ) (x : X) → i < length xs → x ≡ get_or xs i x → p x ≡ true → Some x ≡ first_of p (drop i xs)
+  first_here xs i x h e t =
+      sym (ap (first_of p) (from_place xs i x h e) ∙ cond-true (p x) (Some x) (first_of p (drop (i + 1) xs)) t)
 
   -- the entry at i does not pass
-  pub first_later : (n : ℕ) (xs : List X) (i : ℕ) (x d : X) → i < length (take n xs) → x ≡ get_or xs i x
-      → false ≡ p (get_or xs i d) → first_of p (drop (i + 1) (take n xs)) ≡ first_of p (drop i (take n xs))
-  first_later n xs i x d h e t =
-      let k : i < length xs = omega (arith, length-take n xs) in
-      let tx : p x ≡ false = ap p (get_or_read xs i x k e d) ∙ sym t in
-      sym (ap (first_of p) (from_place n xs i x h e) ∙ cond-false (p x) (Some x) (first_of p (drop (i + 1) (take n xs))) tx)
-
-  -- no entry is left
-  pub first_none : (n : ℕ) (xs : List X) (i : ℕ) → length (take n xs) ≤ i → None ≡ first_of p (drop i (take n xs))
-  first_none n xs i h = sym (ap (first_of p) (drop_all i (take n xs) h))
+  pub first_later : (xs : List X) (i : ℕ) (x : X) → i < length xs → x ≡ get_or xs i x → p x ≡ false
+      → first_of p (drop (i + 1) xs) ≡ first_of p (drop i xs)
+  first_later xs i x h e t =
+      sym (ap (first_of p) (from_place xs i x h e) ∙ cond-false (p x) (Some x) (first_of p (drop (i + 1) xs)) t)
 
   -- at a list's front: the first entry passes, or the answer is that of the rest
   at_front : (x : X) (xs : List X) (r : Option X) → first_of p (x ∷ xs) ≡ r

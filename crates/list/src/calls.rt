@@ -102,11 +102,11 @@ impl<'a, T: Copy> BoundedList<'a, T> {
         self.truncate(0);
     }
 
-    // Puts another entry in the place of the one at `i`; false if there is none.
-    pub fn replace(&mut self, i: usize, x: T) -> bool
-        ensures value { result ≡ nat_lt i (used self.old) }
+    // Puts another entry in the place of the one at `i`, and answers the one that stood there, if there is one.
+    pub fn replace(&mut self, i: usize, x: T) -> Option<T>
+        ensures value { result ≡ slice_get (contents self.old) i }
         ensures contents { contents self.new ≡ slice_set (contents self.old) i x }
-        ensures backing { backing self.new ≡ (if result then slice_set (backing self.old) i x else backing self.old) }
+        ensures backing { backing self.new ≡ (if nat_lt i (used self.old) then slice_set (backing self.old) i x else backing self.old) }
         ensures lender { self.new.entries.ghost_name ≡ self.old.entries.ghost_name }
     {
         let count = self.count;

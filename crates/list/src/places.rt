@@ -4,6 +4,7 @@ ghost use Rattle.std.specs.List.{slice_get};
 ghost use Rattle.list.specs.Contents.{first_of};
 
 use crate::Test;
+use std::mem;
 
 // How many places a slice has.
 pub(crate) fn places<T>(entries: &mut [T]) -> usize
@@ -35,11 +36,8 @@ pub(crate) fn entry_at<T: Copy>(entries: &mut [T], count: usize, i: usize) -> Op
     ensures value { result ≡ slice_get (take count entries.old) i }
     ensures same { entries.new ≡ entries.old }
 {
-    if i < in_use(entries, count) {
-        Some(entries[i])
-    } else {
-        None
-    }
+    let n = in_use(entries, count);
+    entries[..n].get(i).copied()
 }
 
 // Writes one place.
@@ -50,17 +48,16 @@ pub(crate) fn write_at<T: Copy>(entries: &mut [T], i: usize, x: T)
     entries[i] = x;
 }
 
-// Writes the place at `i` if it is in use.
-pub(crate) fn replace_at<T: Copy>(entries: &mut [T], count: usize, i: usize, x: T) -> bool
-    ensures value { result ≡ nat_lt i (length (take count entries.old)) }
+// Writes the place at `i` if it is in use, and answers the entry that stood there.
+pub(crate) fn replace_at<T: Copy>(entries: &mut [T], count: usize, i: usize, x: T) -> Option<T>
+    ensures value { result ≡ slice_get (take count entries.old) i }
     ensures contents { take count entries.new ≡ slice_set (take count entries.old) i x }
-    ensures backing { entries.new ≡ (if result then slice_set entries.old i x else entries.old) }
+    ensures backing { entries.new ≡ (if nat_lt i (length (take count entries.old)) then slice_set entries.old i x else entries.old) }
 {
     if i >= in_use(entries, count) {
-        return false;
+        return None;
     }
-    write_at(entries, i, x);
-    true
+    Some(mem::replace(&mut entries[i], x))
 }
 
 // The first entry in use that passes a test.
@@ -68,9 +65,10 @@ pub(crate) fn find_in<T: Copy, P: Test<T>>(entries: &mut [T], count: usize, test
     ensures value { result ≡ first_of (P.Test.holds test.now) (take count entries.old) }
     ensures same { entries.new ≡ entries.old }
 {
-    for i in 0..in_use(entries, count) {
-        if test.passes(&entries[i]) {
-            return Some(entries[i]);
+    let n = in_use(entries, count);
+    for entry in entries[..n].iter() {
+        if test.passes(entry) {
+            return Some(*entry);
         }
     }
     None

@@ -32,6 +32,6 @@ fn finds_the_first_that_passes(rt: HostRuntime) {
     assert!(rt; list.push(3).is_ok() && list.push(7).is_ok());
     assert_eq!(rt; list.find(&Above(3)), Some(7));
     assert_eq!(rt; list.find(&Above(7)), None);
-    assert!(rt; list.replace(0, 8));
+    assert!(rt; list.replace(0, 8).is_some());
     assert_eq!(rt; list.find(&Above(3)), Some(8));
 }
