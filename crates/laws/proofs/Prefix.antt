@@ -4,7 +4,8 @@ use Rattle.cells.specs.declared.cell.Cell.TheVariants.{Byte, Lost}
 use Rattle.meaning.specs.Terms.{Path, PieceSpec, total}
 use Rattle.meaning.specs.Terms.{Num, no_number, lit, loc, add, mul, Steps, no_steps, end, dot, idx, Truth, no_truth, yea, nay, bloc, not, both, either, eq, lt}
 use Rattle.meaning.specs.Terms.{Ty, Fields}
-use Rattle.meaning.specs.Values.{Outcome, unknown, ◌then◌, limited, is_true, placed, same_path, located, unsigned, content, number, resolved, truth}
+use Rattle.path.specs.Meaning.{same_path}
+use Rattle.meaning.specs.Values.{Outcome, unknown, ◌then◌, limited, is_true, placed, located, unsigned, content, number, resolved, truth}
 use Rattle.meaning.specs.Layouts.{piece_at, Layout, base', rec', arr', alt', LayFields, none', fld', LayElements, done', elem'}
 use Rattle.meaning.specs.Stands.{is_bool}
 use Rattle.laws.specs.Laws.{CoveredCellsDecide}

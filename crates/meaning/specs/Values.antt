@@ -1,10 +1,9 @@
 -- The values of numbers, truths and locations after a list of pieces, with some records open.
 use Rattle.std.specs.Prelude.{ℕ, zero, suc, ◌+◌, ◌*◌, Bool, true, false, cond, ◌&&◌, ◌||◌, List, [], ◌∷◌, ◌++◌, drop, Ok, Err, Result, ◌==◌, nat_le, nat_lt}
 use Rattle.std.proofs.Math.Bool
-use Rattle.std.specs.Str.{bytes_eq}
 use Rattle.cells.specs.declared.cell.Cell.{Cell}
 use Rattle.cells.specs.declared.cell.Cell.TheVariants.{Byte, Lost}
-use Rattle.path.specs.Meaning.{Downward, field, element}
+use Rattle.path.specs.Meaning.{field, element, same_path}
 use Rattle.meaning.specs.declared.fault.EvalFault.{EvalFault}
 use Rattle.meaning.specs.declared.fault.EvalFault.TheVariants as fault
 use Rattle.meaning.specs.Terms.{Path, PieceSpec, Number}
@@ -26,19 +25,6 @@ infixl 30 ◌then◌
 -- numbers up to 2^63 - 1 have a value
 abbrev pub limited : Number → Outcome Number
 limited n = cond (nat_le n 0x7fff_ffff_ffff_ffff) (Ok n) unknown
-
--- equal steps, a field's by its name, and equal paths
-abbrev pub same_step : Downward → Downward → Bool
-same_step (field m) (field n) = bytes_eq m n
-same_step (field m) (element j) = false
-same_step (element i) (field n) = false
-same_step (element i) (element j) = i == j
-
-abbrev pub same_path : Path → Path → Bool
-same_path [] [] = true
-same_path [] (y ∷ ys) = false
-same_path (x ∷ xs) [] = false
-same_path (x ∷ xs) (y ∷ ys) = cond (same_step x y) (same_path xs ys) false
 
 -- the open record that a location starts at: the innermost, or one further out for each climb
 abbrev pub climbed : List Path → ℕ → Outcome Path

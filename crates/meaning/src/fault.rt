@@ -24,15 +24,15 @@ impl From<ReadFault> for EvalFault {
     }
 }
 
-impl EvalFault {
-    pub fn told(self) -> Told
-        ensures { result ≡ eval_told self }
-    {
-        match self {
+impl From<EvalFault> for Told {
+    ghost from_gives = { λ e r. r ≡ eval_told e };
+
+    fn from(e: EvalFault) -> Told {
+        match e {
             EvalFault::NoValue => Told::bare(12),
             EvalFault::Lost(mark) => Told {
                 number: 16,
-                ..ReadFault::LostCell(mark).told()
+                ..Told::from(ReadFault::LostCell(mark))
             },
         }
     }

@@ -1,5 +1,6 @@
 -- The steps of a path, one by one.
-use Rattle.std.proofs.Common.{◌≡◌, ℕ, ◌<◌, List, [], ◌∷◌, map, length, get_or, take, Some, ap, ◌∙◌, arith}
+use Rattle.std.proofs.Common.{◌≡◌, ℕ, ◌<◌, Bool, true, false, cond, ◌&&◌, List, [], ◌∷◌, map, length, get_or, take, Some, refl, ap, ◌∙◌, arith}
+use Rattle.std.specs.Cmp.Lexicographic.{pointwise}
 use Rattle.std.specs.List.{slice_get, AllByRecursion}
 use Rattle.std.proofs.lemmas.List.{length-map, length-take-le, get_or-map, get_or-take}
 use Rattle.std.proofs.lemmas.Option.{slice_get-get_or}
@@ -8,7 +9,8 @@ use Rattle.path.specs.declared.Path.{Path}
 use Rattle.path.specs.declared.Step.{Step}
 use Rattle.path.specs.declared.Step.TheVariants.{Field, Index}
 use Rattle.path.specs.Lawful.{Lawful, LawfulPath}
-use Rattle.path.specs.Meaning.{name_of, step_of, path_of}
+use Rattle.std.specs.Ordering.{on}
+use Rattle.path.specs.Meaning.{name_of, step_of, path_of, same_step, same_path}
 
 pub lawful_step : (s : Step) → Lawful (step_of s)
 lawful_step (Field n) = name_is (name_of n) n.proper
@@ -32,3 +34,19 @@ module _ (p : Path) where
 
   pub lawful_path : LawfulPath (path_of p)
   lawful_path = record { few = omega (arith, path_length, p.short); each = all_lawful (take p.len p.steps) }
+
+and_cond : (a b : Bool) → (a && b) ≡ cond a b false
+and_cond true b = refl
+and_cond false b = refl
+
+-- step by step
+pub same_steps : (xs ys : List Step) → pointwise (on step_of same_step) xs ys ≡ same_path (map step_of xs) (map step_of ys)
+same_steps [] [] = refl
+same_steps [] (y ∷ ys) = refl
+same_steps (x ∷ xs) [] = refl
+same_steps (x ∷ xs) (y ∷ ys) =
+    and_cond (same_step (step_of x) (step_of y)) (pointwise (on step_of same_step) xs ys)
+    ∙ ap (λ b. cond (same_step (step_of x) (step_of y)) b false) (same_steps xs ys)
+
+pub same_paths : (p q : Path) → pointwise (on step_of same_step) (take p.len p.steps) (take q.len q.steps) ≡ same_path (path_of p) (path_of q)
+same_paths p q = same_steps (take p.len p.steps) (take q.len q.steps)

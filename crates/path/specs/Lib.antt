@@ -1,2 +1,3 @@
 pub mod Meaning
+pub mod Equal
 pub mod Lawful

@@ -1,5 +1,6 @@
 -- What names, steps and paths mean.
-use Rattle.std.specs.Prelude.{ℕ, List, map, take}
+use Rattle.std.specs.Prelude.{ℕ, Bool, true, false, cond, List, [], ◌∷◌, map, take, ◌==◌}
+use Rattle.std.specs.Str.{bytes_eq}
 use Rattle.path.specs.declared.Name.{Name}
 use Rattle.path.specs.declared.Step.{Step}
 use Rattle.path.specs.declared.Step.TheVariants.{Field, Index}
@@ -22,3 +23,16 @@ step_of (Index i) = element i.number
 -- the steps from the root down
 abbrev pub path_of : Path → List Downward
 path_of p = map step_of (take p.len p.steps)
+
+-- equal steps, a field's by its name, and equal paths
+abbrev pub same_step : Downward → Downward → Bool
+same_step (field m) (field n) = bytes_eq m n
+same_step (field m) (element j) = false
+same_step (element i) (field n) = false
+same_step (element i) (element j) = i == j
+
+abbrev pub same_path : List Downward → List Downward → Bool
+same_path [] [] = true
+same_path [] (y ∷ ys) = false
+same_path (x ∷ xs) [] = false
+same_path (x ∷ xs) (y ∷ ys) = cond (same_step x y) (same_path xs ys) false

@@ -13,7 +13,8 @@ pub const STEPS_MAX: usize = 8;
 // The highest number that an element can have.
 pub const INDEX_MAX: u64 = 65534;
 
-// The name of a field: the first `len` of the bytes.
+// The name of a field: the first `len` of the bytes. Names and paths stand whole in pieces, which are
+// copied into lists that callers lend; so they have fixed memory, and no heap text.
 #[derive(Clone, Copy)]
 pub struct Name {
     bytes: [u8; 16],
@@ -23,7 +24,7 @@ pub struct Name {
 }
 
 // The number of an element of an array.
-#[derive(Clone, Copy)]
+#[derive(Clone, Copy, PartialEq)]
 pub struct Element {
     number: u16,
     ghost small: { number ≤ 65534 },

@@ -1,7 +1,11 @@
 // Names, elements and steps.
 ghost use Rattle.std.specs.Prelude.{◌≡◌, ℕ, ◌<◌, ◌≤◌, length, take, Decides, MatchOption};
 ghost use Rattle.sheet_text.specs.Plain.{ProperName};
-ghost use Rattle.path.specs.Meaning.{name_of, step_of};
+ghost use Rattle.std.specs.Str.{bytes_eq};
+ghost use Rattle.std.specs.Ordering.{on};
+ghost use Rattle.std.specs.Cmp.{on_per};
+ghost use Rattle.path.specs.Meaning.{name_of, step_of, same_step};
+ghost use Rattle.path.specs.Equal.{bytes_per, steps_per};
 
 use super::{Element, INDEX_MAX, Name, Step};
 use sheet_text::is_name;
@@ -39,10 +43,17 @@ impl Name {
     {
         &self.bytes[0..self.len as usize]
     }
+}
 
-    // Whether two names have the same bytes.
-    pub fn same(&self, other: &Name) -> bool
-        ensures { Decides result (name_of self.now ≡ name_of other.now) }
+// By hand: a derive would also compare the places behind the name.
+impl PartialEq for Name {
+    ghost eq = { on name_of bytes_eq };
+
+    ghost laws = { on_per name_of bytes_per };
+
+    fn eq(&self, other: &Name) -> bool
+        ensures is { result ≡ bytes_eq (name_of self.now) (name_of other.now) }
+        ensures same { Decides result (name_of self.now ≡ name_of other.now) }
     {
         self.as_bytes() == other.as_bytes()
     }
@@ -69,20 +80,20 @@ impl Element {
     }
 }
 
-impl Step {
-    // Whether two steps go the same way: two fields of one name, or two elements of one number.
-    pub fn same(&self, other: &Step) -> bool
-        ensures { Decides result (step_of self.now ≡ step_of other.now) }
+// By hand: a derive would not promise what equal steps mean.
+impl PartialEq for Step {
+    ghost eq = { on step_of same_step };
+
+    ghost laws = { on_per step_of steps_per };
+
+    fn eq(&self, other: &Step) -> bool
+        ensures is { result ≡ same_step (step_of self.now) (step_of other.now) }
+        ensures same { Decides result (step_of self.now ≡ step_of other.now) }
     {
-        match self {
-            Step::Field(a) => match other {
-                Step::Field(b) => a.same(b),
-                Step::Index(_) => false,
-            },
-            Step::Index(a) => match other {
-                Step::Field(_) => false,
-                Step::Index(b) => a.number == b.number,
-            },
+        match (self, other) {
+            (Step::Field(a), Step::Field(b)) => a == b,
+            (Step::Index(a), Step::Index(b)) => a == b,
+            _ => false,
         }
     }
 }

@@ -2,7 +2,10 @@
 ghost use Rattle.std.specs.Prelude.{◌≡◌, ℕ, ◌≤◌, [], ◌∷◌, ◌++◌, length, take, Decides, MatchOption};
 ghost use Rattle.std.specs.List.{slice_get};
 ghost use Rattle.std.specs.Option.{option_map};
-ghost use Rattle.path.specs.Meaning.{step_of, path_of};
+ghost use Rattle.std.specs.Ordering.{on};
+ghost use Rattle.std.specs.Cmp.{on_per};
+ghost use Rattle.path.specs.Meaning.{step_of, path_of, same_path};
+ghost use Rattle.path.specs.Equal.{paths_per};
 
 use super::{Element, Path, STEPS_MAX, Step};
 
@@ -53,28 +56,31 @@ impl Path {
         self.len as usize
     }
 
+    // The steps from the root down.
+    fn in_use(&self) -> &[Step]
+        ensures { result.now ≡ take self.now.len self.now.steps }
+    {
+        &self.steps[..self.len as usize]
+    }
+
     // The step at `i`, counted from the root, if there is one.
     pub fn step(&self, i: usize) -> Option<Step>
         ensures { option_map step_of result ≡ slice_get (path_of self.now) i }
     {
-        if i >= self.len as usize {
-            return None;
-        }
-        Some(self.steps[i])
+        self.in_use().get(i).copied()
     }
+}
 
-    // Whether two paths have the same steps.
-    pub fn same(&self, other: &Path) -> bool
-        ensures { Decides result (path_of self.now ≡ path_of other.now) }
+// By hand: a derive would also compare the places behind the last step.
+impl PartialEq for Path {
+    ghost eq = { on path_of same_path };
+
+    ghost laws = { on_per path_of paths_per };
+
+    fn eq(&self, other: &Path) -> bool
+        ensures is { result ≡ same_path (path_of self.now) (path_of other.now) }
+        ensures same { Decides result (path_of self.now ≡ path_of other.now) }
     {
-        if self.len != other.len {
-            return false;
-        }
-        for i in 0..self.len as usize {
-            if !self.steps[i].same(&other.steps[i]) {
-                return false;
-            }
-        }
-        true
+        self.in_use() == other.in_use()
     }
 }
