@@ -50,24 +50,35 @@ same_digits a b (suc k) [] e = refl
 same_digits a b (suc k) (Byte x ∷ cs) e = same_digits (a * 256 + x) (b * 256 + x) k cs (omega arith)
 same_digits a b (suc k) (Lost m ∷ cs) e = refl
 
-module _ (cs : List Cell) (p i e n : ℕ) (h : i < e) where
-  left : e - i ≡ suc (e - (i + 1))
+-- the cell at k, of those before e
+module _ (cs : List Cell) (k e n : ℕ) (h : k < e) where
+  left : e - k ≡ suc (e - (k + 1))
   left = omega arith
 
-  pub digit_read : (b m : ℕ) → read_at cs (p + i) ≡ Ok b → m ≡ held (n * 256 + b)
-      → (unsigned n (e - i) (drop (p + i) cs) then kept) ≡ (unsigned m (e - (i + 1)) (drop (p + (i + 1)) cs) then kept)
+  pub digit_read : (b m : ℕ) → read_at cs k ≡ Ok b → m ≡ held (n * 256 + b)
+      → (unsigned n (e - k) (drop k cs) then kept) ≡ (unsigned m (e - (k + 1)) (drop (k + 1) cs) then kept)
   digit_read b m r g =
-      let q : suc (p + i) ≡ p + (i + 1) = omega arith in
       let f : held (n * 256 + b) ≡ held m = omega arith in
-      ap (λ w. unsigned n w (drop (p + i) cs) then kept) left
-      ∙ ap (λ x. x then kept) (next_ok cs (p + i) (p + i) n (e - (i + 1)) b r)
-      ∙ ap (λ k. unsigned (n * 256 + b) (e - (i + 1)) (drop k cs) then kept) q
-      ∙ same_digits (n * 256 + b) m (e - (i + 1)) (drop (p + (i + 1)) cs) f
+      let q : suc k ≡ k + 1 = omega arith in
+      ap (λ w. unsigned n w (drop k cs) then kept) left
+      ∙ ap (λ x. x then kept) (next_ok cs k k n (e - (k + 1)) b r)
+      ∙ ap (λ j. unsigned (n * 256 + b) (e - (k + 1)) (drop j cs) then kept) q
+      ∙ same_digits (n * 256 + b) m (e - (k + 1)) (drop (k + 1) cs) f
 
-  pub digit_refused : (f : ReadFault) → read_at cs (p + i) ≡ Err f → (unsigned n (e - i) (drop (p + i) cs) then kept) ≡ Err (from_read f)
+  pub digit_refused : (f : ReadFault) → read_at cs k ≡ Err f → (unsigned n (e - k) (drop k cs) then kept) ≡ Err (from_read f)
   digit_refused f r =
-      ap (λ w. unsigned n w (drop (p + i) cs) then kept) left
-      ∙ ap (λ x. x then kept) (next_err cs (p + i) (p + i) n (e - (i + 1)) f r)
+      ap (λ w. unsigned n w (drop k cs) then kept) left ∙ ap (λ x. x then kept) (next_err cs k k n (e - (k + 1)) f r)
+
+-- at first all the cells of a piece are left, which has w of them from q on
+pub all_left : (cs : List Cell) (e p q w : ℕ) → p ≡ q → e - p ≡ w
+    → (unsigned 0 (e - p) (drop p cs) then kept) ≡ (unsigned 0 w (drop q cs) then kept)
+all_left cs e p q w h k = ap (λ x. unsigned 0 x (drop p cs) then kept) k ∙ ap (λ y. unsigned 0 w (drop y cs) then kept) h
+
+pub none_left : (cs : List Cell) (e k n : ℕ) → e ≤ k → n ≤ 0x8000_0000_0000_0000 → Ok n ≡ (unsigned n (e - k) (drop k cs) then kept)
+none_left cs e k n h l =
+    let z : e - k ≡ 0 = omega arith in
+    let m : n ≡ held n = omega arith in
+    ap Ok m ∙ sym (ap (λ w. unsigned n w (drop k cs) then kept) z)
 
 pub held_then : {X : Type 0} (x : Outcome ℕ) (f g : ℕ → Outcome X) → ((n : ℕ) → f (held n) ≡ g n) → ((x then kept) then f) ≡ (x then g)
 held_then (Ok n) f g h = h n

@@ -1,8 +1,8 @@
 // Numbers: sums and products, and what the cells of a piece write.
 #![tactic(auto)]
 
-ghost use Rattle.std.specs.Prelude.{◌≡◌, ℕ, ◌+◌, ◌*◌, ◌≤◌};
-ghost use Rattle.meaning.specs.Values.{limited};
+ghost use Rattle.std.specs.Prelude.{◌≡◌, ◌+◌, ◌*◌, ◌≤◌, MatchOption};
+ghost use Rattle.meaning.specs.Values.{limited, unknown};
 ghost use Rattle.content.specs.Content.{held, held_value, value_of, truth_of};
 
 use cells::source::Source;
@@ -12,56 +12,44 @@ use path::Piece;
 // The largest number that has a value.
 const LIMIT: u64 = 0x7fff_ffff_ffff_ffff;
 
-// A number, if it is not above the limit.
-fn limit(n: u64) -> Result<u64, EvalFault>
-    ensures { result ≡ limited n }
+// The number, if there is one and it is not above the limit.
+fn within(n: Option<u64>) -> Result<u64, EvalFault>
+    ensures { MatchOption n (result ≡ unknown) (λ m. result ≡ limited m) }
 {
-    if n <= LIMIT {
-        Ok(n)
-    } else {
-        Err(EvalFault::NoValue)
-    }
+    n.filter(|m| *m <= LIMIT).ok_or(EvalFault::NoValue)
 }
 
 // The sum of two numbers.
 pub fn sum(a: u64, b: u64) -> Result<u64, EvalFault>
     ensures { result ≡ limited (a + b) }
 {
-    match a.checked_add(b) {
-        Some(n) if n <= LIMIT => Ok(n),
-        _ => Err(EvalFault::NoValue),
-    }
+    within(a.checked_add(b))
 }
 
 // The product of two numbers.
 pub fn product(a: u64, b: u64) -> Result<u64, EvalFault>
     ensures { result ≡ limited (a * b) }
 {
-    match a.checked_mul(b) {
-        Some(n) if n <= LIMIT => Ok(n),
-        _ => Err(EvalFault::NoValue),
-    }
+    within(a.checked_mul(b))
 }
 
 // One byte more, held just above the limit.
 fn grown(n: u64, b: u8) -> u64
     ensures { result ≡ held (n * 256 + b) }
 {
-    if n > LIMIT / 256 {
-        LIMIT + 1
-    } else {
-        n * 256 + b as u64
-    }
+    n.saturating_mul(256)
+        .saturating_add(u64::from(b))
+        .min(LIMIT + 1)
 }
 
 // The bytes of a piece as an unsigned number, most significant first, held just above the limit.
 fn digits<S: Source>(source: &S, piece: &Piece) -> Result<u64, EvalFault>
     ensures { result ≡ held_value (S.Source.cells source.now) piece.now }
 {
-    let mut n: u64 = 0;
-    for i in 0..piece.width as usize {
-        let b = source.read(piece.place as usize + i)?;
-        n = grown(n, b);
+    let place = usize::from(piece.place);
+    let mut n = 0;
+    for k in place..place + usize::from(piece.width) {
+        n = grown(n, source.read(k)?);
     }
     Ok(n)
 }
@@ -70,14 +58,12 @@ fn digits<S: Source>(source: &S, piece: &Piece) -> Result<u64, EvalFault>
 pub fn value_of<S: Source>(source: &S, piece: &Piece) -> Result<u64, EvalFault>
     ensures { result ≡ value_of (S.Source.cells source.now) piece.now }
 {
-    let n = digits(source, piece)?;
-    limit(n)
+    within(Some(digits(source, piece)?))
 }
 
 // Whether the cells of a piece write another number than 0.
 pub fn is_true<S: Source>(source: &S, piece: &Piece) -> Result<bool, EvalFault>
     ensures { result ≡ truth_of (S.Source.cells source.now) piece.now }
 {
-    let n = digits(source, piece)?;
-    Ok(n != 0)
+    Ok(digits(source, piece)? != 0)
 }

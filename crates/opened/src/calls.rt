@@ -49,9 +49,7 @@ impl Opened {
     pub fn child(self, step: Step) -> Option<Opened>
         ensures { MatchOption result (8 ≤ length (path_of self.path)) (λ q. (path_of q.path ≡ path_of self.path ++ step_of step ∷ []) × (records_of q ≡ records_of self)) }
     {
-        let Some(path) = self.path.child(step) else {
-            return None;
-        };
+        let path = self.path.child(step)?;
         let lens = self.lens;
         let count = self.count;
         Some(Opened { path, lens, count })

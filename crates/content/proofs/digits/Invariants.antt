@@ -1,10 +1,10 @@
-use Rattle.std.proofs.Common.{◌≡◌, ◌+◌, ◌-◌, ◌≤◌, drop, Ok}
+use Rattle.std.proofs.Common.{◌≡◌, ◌-◌, ◌≤◌, drop, Ok}
 use Rattle.meaning.specs.Values.{◌then◌, unsigned}
-use Rattle.content.specs.Content.{held}
+use Rattle.content.specs.Content.{held, held_value}
 use Rattle.content.proofs.digits.Given as goal
 
-abbrev pub invariant-loop-i : goal.invariant-loop-i
-invariant-loop-i g l =
+-- with the cells that are left, the digits so far write what the piece does
+abbrev pub invariant-loop-k : goal.invariant-loop-k
+invariant-loop-k g l =
     let cs = g.S.Source.cells l.source in
-    ((unsigned l.n (l.i-end - l.i) (drop (l.piece.place + l.i) cs) then λ n. Ok (held n)) ≡ (unsigned 0 l.i-end (drop l.piece.place cs) then λ n. Ok (held n)))
-    × (l.n ≤ 0x8000_0000_0000_0000)
+    ((unsigned l.n (l.k-end - l.k) (drop l.k cs) then λ n. Ok (held n)) ≡ held_value cs l.piece) × (l.n ≤ 0x8000_0000_0000_0000)

@@ -11,11 +11,11 @@ invariant_of-result c =
     record {
       few = s.few;
       full = s.full;
-      inside = subst (λ P. below (length P) s.lens s.count ≡ true) (sym c.in-Some.ensures) (child_below (path_of s.path) (step_of c.args.step) s.lens s.count s.inside);
+      inside = subst (λ P. below (length P) s.lens s.count ≡ true) (sym c.in_ok-path.ensures) (child_below (path_of s.path) (step_of c.args.step) s.lens s.count s.inside);
     }
 
 pub returns : goal.returns
 returns c =
     let s = c.args.self in
-    let e = c.in-Some.ensures in
+    let e = c.in_ok-path.ensures in
     (e, ap (λ P. fronts P s.lens s.count) e ∙ child_fronts (path_of s.path) (step_of c.args.step) s.lens s.count s.inside)
