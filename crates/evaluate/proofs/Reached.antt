@@ -8,7 +8,7 @@ use Rattle.path.specs.Meaning.{Downward, field, step_of, path_of}
 use Rattle.sheet_text.specs.Chars.{is_name}
 use Rattle.sheet_text.specs.Plain.{ProperName}
 use Rattle.sheet_text.proofs.Plain.{name_is}
-use Rattle.sheet_text.proofs.Tests.{refuted}
+use Rattle.std.proofs.lemmas.Bool.{false_from_ne_true}
 use Rattle.path.proofs.Laws.{lawful_path}
 use Rattle.evaluate.specs.Reaches.{fits, push, extend, reach_of}
 
@@ -37,7 +37,7 @@ push_unfit (Some P) d h = cond-false _ _ _ (ap (λ b. ltb (length P) 8 && b) h �
 
 -- bytes that are no name lead nowhere
 pub no_name : (n : List ℕ) → (ProperName n → ⊥) → fits (field n) ≡ false
-no_name n h = refuted (is_name n) (λ e. h (name_is n e))
+no_name n h = false_from_ne_true (is_name n) (λ e. h (name_is n e))
 
 -- every step of a path fits
 abbrev pub AllFit : List Downward → Type 0

@@ -57,10 +57,3 @@ module _ (cells : List Cell) (s : CheckedSheet) (l : BoundedList Piece) (o : Ope
 
   abbrev pub reach_of_row : Row → Option (List Downward) → Outcome (Option (List Downward))
   reach_of_row r P = steps_as (steps_of (text_of s) (rows_of s) r (number_at (text_of s) (rows_of s)) (steps_at (text_of s) (rows_of s))) then λ q. Ok (extend P q)
-
-  -- two values, the first one's first
-  abbrev pub pair_value : ℕ → ℕ → Outcome (ℕ × ℕ)
-  pair_value a b = number_value a then λ x. number_value b then λ y. Ok (x, y)
-
-  abbrev pub truths_value : ℕ → ℕ → Outcome (Bool × Bool)
-  truths_value a b = truth_value a then λ x. truth_value b then λ y. Ok (x, y)

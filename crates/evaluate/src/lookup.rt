@@ -1,9 +1,9 @@
 // Pieces by their paths.
 ghost use Rattle.std.specs.Prelude.{◌≡◌};
 ghost use Rattle.list.specs.Contents.{contents};
-ghost use Rattle.path.specs.Meaning.{path_of};
+ghost use Rattle.path.specs.Meaning.{path_of, same_path};
 ghost use Rattle.meaning.specs.Terms.{pieces_of};
-ghost use Rattle.meaning.specs.Values.{same_path, placed};
+ghost use Rattle.meaning.specs.Values.{placed};
 ghost use Rattle.evaluate.specs.Evaluated.{as_piece};
 
 use list::{BoundedList, Test};
@@ -20,7 +20,7 @@ impl Test<Piece> for AtPath {
     ghost holds = { λ s p. same_path (path_of p.path) (path_of s.path) };
 
     fn passes(&self, entry: &Piece) -> bool {
-        entry.path.same(&self.path)
+        entry.path == self.path
     }
 }
 
@@ -32,8 +32,5 @@ pub(crate) fn find_piece(
     ensures value { as_piece result ≡ placed (pieces_of (contents pieces.old)) (path_of path) }
     ensures same { pieces.new ≡ pieces.old }
 {
-    match pieces.find(&AtPath { path }) {
-        Some(piece) => Ok(piece),
-        None => Err(EvalFault::NoValue),
-    }
+    pieces.find(&AtPath { path }).ok_or(EvalFault::NoValue)
 }

@@ -12,28 +12,19 @@ use sheet_text::Column;
 fn longer(reach: Option<Path>, step: Step) -> Option<Path>
     ensures { reach_of result ≡ push (reach_of reach) (step_of step) }
 {
-    match reach {
-        Some(path) => path.child(step),
-        None => None,
-    }
+    reach?.child(step)
 }
 
 // One step more, into the field that a column names.
 pub(crate) fn into_field(text: &[u8], name: Column, reach: Option<Path>) -> Option<Path>
     ensures { reach_of result ≡ push (reach_of reach) (field (name_in text.now name)) }
 {
-    match Name::new(name_of(text, name)) {
-        Some(n) => longer(reach, Step::Field(n)),
-        None => None,
-    }
+    longer(reach, Step::Field(Name::new(name_of(text, name))?))
 }
 
 // One step more, into an element.
 pub(crate) fn into_element(i: u64, reach: Option<Path>) -> Option<Path>
     ensures { reach_of result ≡ push (reach_of reach) (element i) }
 {
-    match Element::new(i) {
-        Some(e) => longer(reach, Step::Index(e)),
-        None => None,
-    }
+    longer(reach, Step::Index(Element::new(i)?))
 }

@@ -12,32 +12,21 @@ use sheet_text::{Base, Column, Row, TypeWord, Word};
 pub(crate) fn row_at(sheet: &CheckedSheet<'_, '_>, row: usize) -> Row
     ensures { result ≡ row_at (rows_of sheet.now) row }
 {
-    let rows = sheet.rows();
-    if row < rows.len() {
-        rows[row]
-    } else {
-        Row::BLANK
-    }
+    sheet.rows().get(row).copied().unwrap_or(Row::BLANK)
 }
 
 // The number that a column holds.
 pub(crate) fn number_in(column: Column) -> u64
     ensures { result ≡ target column }
 {
-    match column {
-        Column::Number(n) => n,
-        Column::Blank | Column::Name(_) => 0,
-    }
+    column.number().unwrap_or(0)
 }
 
 // The row that a column names, if it names one.
 pub(crate) fn ref_in(column: Column) -> Option<usize>
     ensures { result ≡ ref_of column }
 {
-    match column {
-        Column::Number(n) => Some(n as usize),
-        Column::Blank | Column::Name(_) => None,
-    }
+    column.number().map(|n| n as usize)
 }
 
 // Whether a row is a bool.

@@ -1,0 +1,12 @@
+// What values are worked out over.
+use opened::Opened;
+use sheet::CheckedSheet;
+
+// The sheet, the cells, and the records that are open. The pieces are handed in at each call, since
+// a list of them is always taken for writing.
+#[derive(Drop)]
+pub struct Evaluation<'e, 't, 'r, S> {
+    pub sheet: &'e CheckedSheet<'t, 'r>,
+    pub source: &'e S,
+    pub records: &'e Opened,
+}
