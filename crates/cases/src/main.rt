@@ -9,6 +9,7 @@ use sheet::{CheckedSheet, read_sheet};
 use sheet_text::{MAX_ROWS, Row};
 use std::io::Write;
 use std::{env, fs};
+use told::Told;
 
 // The listing of an input, by a row table and a buffer that are lent.
 fn list_with<'a>(
@@ -17,9 +18,9 @@ fn list_with<'a>(
     places: &'a mut [u8],
 ) -> anyhow::Result<Line<'a>> {
     let mut line = Line::new(places);
-    if write_listing(bytes, table, &mut line).is_err() {
-        return Err(anyhow!("the listing is longer than its buffer"));
-    }
+    write_listing(bytes, table, &mut line).map_err(|_| anyhow!(
+        "the listing is longer than its buffer"
+    ))?;
     Ok(line)
 }
 
@@ -28,9 +29,7 @@ const SHEET: &[u8] = b"row,word,name,one,two,three\n0,rec,-,-,-,-\n1,u8,-,-,-,-\
 // A sheet of two rows and digits up to `count` bytes, and then a byte that is no digit.
 fn long_input(rt: &HostRuntime, count: usize) -> anyhow::Result<Vec<u8>> {
     let mut bytes = SHEET.to_vec(rt.alloc())?;
-    for _ in SHEET.len()..count {
-        bytes.push(b'a')?;
-    }
+    bytes.resize(count, b'a')?;
     bytes.push(b'!')?;
     Ok(bytes)
 }
@@ -74,7 +73,7 @@ fn fill_twice<'t, 'r>(
     let second = sheet.len();
     println!(rt; "filled: {filled}, {second} rows")?;
     if let Err(refusal) = sheet.fill(text, &rows[rows.len()..]) {
-        let number = refusal.told().number;
+        let number = Told::from(refusal).number;
         let line = refusal.line;
         let third = sheet.len();
         println!(rt; "no rows: refused with {number}, line {line}; still {third} rows")?;
@@ -85,15 +84,11 @@ fn fill_twice<'t, 'r>(
 fn show_filling(rt: &HostRuntime) -> anyhow::Result<()> {
     let text = &SHEET[0..SHEET.len() - 1];
     let mut table = [Row::BLANK; 4];
-    match read_sheet(text, &mut table) {
-        Ok(count) => fill_twice(
-            rt,
-            &mut CheckedSheet::built_in(),
-            text,
-            &table[0..count.min(4)],
-        ),
-        Err(_) => Ok(()),
-    }
+    let Ok(count) = read_sheet(text, &mut table) else {
+        return Ok(());
+    };
+    let rows = &table[..count.min(table.len())];
+    fill_twice(rt, &mut CheckedSheet::built_in(), text, rows)
 }
 
 fn show_tables(rt: &HostRuntime, places: &mut [u8]) -> anyhow::Result<()> {

@@ -17,6 +17,7 @@ use line::{Full, Line};
 use lines::write_all;
 use sheet::read_sheet;
 use sheet_text::{MAX_ROWS, Row};
+use told::Told;
 
 mod found;
 mod lines;
@@ -39,7 +40,7 @@ fn write_message(capture: &[u8], out: &mut Line<'_>) -> Result<(), Full>
             };
             write_all(&laying, out)
         }
-        Err(fault) => write_all(&fault.told(), out),
+        Err(fault) => write_all(&Told::from(fault), out),
     }
 }
 
@@ -54,7 +55,7 @@ pub fn write_listing(bytes: &[u8], table: &mut [Row], out: &mut Line<'_>) -> Res
     let input = Input::of(bytes);
     match read_sheet(input.sheet, table) {
         Ok(_) => write_message(input.capture, out),
-        Err(refusal) => write_all(&refusal.told(), out),
+        Err(refusal) => write_all(&Told::from(refusal), out),
     }
 }
 
