@@ -38,6 +38,7 @@ pub trait Store: Source {
         ensures spares { spares self.new ≡ spares self.old }
         ensures fixed { fixed self.new ≡ fixed self.old };
 
-    // what each `impl` must prove: no cell is lost
+    // what each `impl` must prove: no cell is lost. `write` promises it to whoever writes; a layer needs it
+    // also of a store that it does not write to
     ghost whole: { (s : Self) → NoneLost (Self.cells s) };
 }

@@ -45,7 +45,7 @@ pub struct Layer<S, P> {
 }
 
 impl<S: Source, P: Placing> Layer<S, P> {
-    pub fn over(below: S, placing: P) -> Self
+    pub(crate) fn over(below: S, placing: P) -> Self
         ensures { result ≡ record { below = below; placing = placing } }
     {
         Layer { below, placing }

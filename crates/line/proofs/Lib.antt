@@ -1,2 +1,1 @@
 pub mod Numerals
-pub mod Filling

@@ -1,6 +1,6 @@
 -- A line and a count keep what every place of text keeps.
 use Rattle.std.proofs.Common.{ℕ, arith, length-append}
-use Rattle.line.proofs.Filling.{fills_none, fills_more}
+use Rattle.line.specs.Laws.{fills_none, fills_more}
 use Rattle.line.specs.Fills.{Fills}
 use Rattle.listing.specs.Sinks.{Joins, Counted}
 

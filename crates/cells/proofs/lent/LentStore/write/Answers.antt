@@ -1,15 +1,10 @@
-use Rattle.std.proofs.Common.{◌/◌, ◌<◌, length, arith, rules, sym}
-use Rattle.cells.proofs.Meanings.{read_past}
-use Rattle.cells.proofs.Tells.{answers}
+use Rattle.std.proofs.Common.{◌/◌, ◌<◌, length, arith, rules}
 use Rattle.cells.specs.Laws.{lent_whole}
 use Rattle.cells.proofs.Lents.{unit_within, lent_read, lent_after, lent_spared}
 use Rattle.cells.proofs.lent.LentStore.write.Goals as goal
 
 pub returns-then-k-len-clause-whole : goal.returns-then-k-len-clause-whole
 returns-then-k-len-clause-whole g c = lent_whole g.U.Unit.laws c.args.self.now.units.now
-
-pub returns-then-k-len-clause-answer : goal.returns-then-k-len-clause-answer
-returns-then-k-len-clause-answer g c = answers (sym (read_past (g.U.Unit.cells c.args.self.now.units.now) c.args.k (omega arith)))
 
 pub offset_bounds-self-k : goal.offset_bounds-self-k
 offset_bounds-self-k g c =
