@@ -1,5 +1,5 @@
 -- Rows have no fault exactly where they keep every rule.
-use Rattle.std.proofs.Common.{◌≡◌, ℕ, zero, suc, ◌+◌, ◌<◌, ◌≤◌, Bool, true, false, cond, not, ◌&&◌, ◌||◌, ltb, List, [], ◌∷◌, length, get_or, is_some, Some, None, refl, ap, ◌∙◌, subst, arith, le-ltb, lt-ltb}
+use Rattle.std.proofs.Common.{◌≡◌, ℕ, zero, suc, ◌+◌, ◌<◌, ◌≤◌, Bool, true, false, cond, not, ◌&&◌, ◌||◌, ltb, List, [], ◌∷◌, length, get_or, Some, None, refl, ap, ◌∙◌, subst, arith, le-ltb, lt-ltb}
 use Rattle.sheet_text.specs.declared.row.Row.{Row}
 use Rattle.sheet_text.specs.declared.word.Word.{Word}
 use Rattle.sheet_text.specs.declared.word.Word.TheVariants as word
@@ -87,6 +87,3 @@ module _ (text : List ℕ) (rows : List Row) (kept : Keeps text rows) where
   pub no_verdict : verdict text rows ≡ None
   unfolding verdict
   no_verdict = let some = kept.some in no_fault (length rows) _ _ _ (omega arith) kept.few columns_fine fields_fine depths_fine
-
-  pub lawful_kept : lawful text rows ≡ true
-  lawful_kept = ap (λ o. not (is_some o)) no_verdict

@@ -5,7 +5,7 @@ ghost use Rattle.sheet.specs.Fields.{name_in};
 
 use sheet_text::{Column, Span};
 
-// The row that a column names, where it names one.
+// The row that a column names, where it names one, and else 0: no column names row 0.
 pub fn target(column: Column) -> usize
     ensures { result ≡ target column }
 {

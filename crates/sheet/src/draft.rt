@@ -10,7 +10,7 @@ use super::names::Names;
 use super::rule::{Family, Need, family_of, rule_of};
 use sheet_text::{Column, LIMIT, MAX_ROWS, Reason, Row, SheetRefusal, TypeWord, Word, is_name};
 
-// Rows over the text that holds their names.
+// Rows over the text that holds their names. Apart from `CheckedSheet`, whose rows keep every rule.
 #[derive(Clone, Copy)]
 pub struct Draft<'t, 'r> {
     pub text: &'t [u8],
@@ -82,6 +82,7 @@ impl<'t, 'r> Draft<'t, 'r> {
         ensures { result ≡ distinct (chain_names (length self.now.rows.now) self.now.text.now self.now.rows.now first) }
     {
         let mut names = Names::new(*self, first);
+        // No `for`: the names behind the one in hand are gone over again.
         while let Some(name) = names.next() {
             let mut later = names;
             if later.any(|other| name == other) {
@@ -140,6 +141,7 @@ impl<'t, 'r> Draft<'t, 'r> {
         }
         self.each_row(Reason::Column, |k, row| self.keeps_rule(k, row))?;
         self.each_row(Reason::Field, |_, row| self.fields_differ(row))?;
+        // A table beside the rows, which are lent for reading; the memory is fixed.
         let mut table = [0; MAX_ROWS];
         let depths = &mut table[..self.rows.len()];
         fill_depths(self.rows, depths);

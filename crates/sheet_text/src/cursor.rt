@@ -9,7 +9,8 @@ use super::refusal::Reason;
 use super::row::Row;
 use super::token::read_token;
 
-// The text of a sheet, read up to a place.
+// The text of a sheet, read up to a place. That reading keeps the text stands at each call: it speaks of two
+// values of the cursor, so it is no fact of its type.
 #[derive(Drop)]
 pub struct Cursor<'t> {
     text: &'t [u8],
@@ -21,7 +22,7 @@ pub struct Cursor<'t> {
 fn ends_part(b: u8) -> bool
     ensures { result ≡ is_stop b }
 {
-    matches!(b as char, ',' | '\n')
+    matches!(b, b',' | b'\n')
 }
 
 impl<'t> Cursor<'t> {

@@ -4,7 +4,7 @@ ghost use Rattle.sheet_text.specs.Columns.{number_in, span_in};
 
 use super::word::{TypeWord, Word};
 
-// A part of the sheet's text.
+// A part of the sheet's text. No slice: a row is kept without the text, in memory that a caller lends.
 #[derive(Clone, Copy)]
 pub struct Span {
     pub at: usize,
@@ -41,7 +41,9 @@ impl Column {
     }
 }
 
-// A row of a sheet: its word, and its columns as its line states them.
+// A row of a sheet: its word, and its columns as its line states them. Rows name other rows by number, as
+// the sheet does: the table of them is lent, and there is no heap for boxes. The four columns are no struct
+// of their own, though rules have four needs, too: every use would go through one more name.
 #[derive(Clone, Copy)]
 pub struct Row {
     pub word: Word,

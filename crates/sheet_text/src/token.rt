@@ -33,6 +33,7 @@ impl NameByte {
     }
 }
 
+// What a byte may be in a name, by its character.
 fn name_byte(b: u8) -> NameByte
     ensures { result ≡ class_of b }
 {
@@ -89,7 +90,8 @@ pub fn is_name(bytes: &[u8]) -> bool
 // The largest number of a sheet.
 pub const LIMIT: u64 = 0x7fff_ffff_ffff_ffff;
 
-// The number that decimal digits write, if there are no other bytes and it is at most `LIMIT`.
+// The number that decimal digits write, if there are no other bytes and it is at most `LIMIT`. No `parse`:
+// that takes a `+`, and has another limit.
 fn read_digits(bytes: &[u8]) -> Option<u64>
     ensures { result ≡ digits_after 0 bytes.now }
 {
@@ -107,10 +109,7 @@ fn read_digits(bytes: &[u8]) -> Option<u64>
 fn digit_of(b: u8) -> Option<u64>
     ensures { result ≡ digit_of b }
 {
-    match b as char {
-        '0'..='9' => Some(u64::from(b - b'0')),
-        _ => None,
-    }
+    char::from(b).to_digit(10).map(u64::from)
 }
 
 // The decimal number that the bytes write, without leading zeros.

@@ -103,7 +103,7 @@ impl Base {
 }
 
 impl Word {
-    // Every word once.
+    // Every word once: a table, so that each spelling stands once, in `text`.
     const ALL: [Word; 31] = [
         Word::Type(TypeWord::Base(Base::Bool)),
         Word::Type(TypeWord::Base(Base::Char)),
