@@ -1,7 +1,5 @@
 -- The cells of a piece, one after the other.
-use Rattle.std.proofs.Common.{◌≡◌, ℕ, zero, suc, ◌+◌, ◌-◌, ◌*◌, ◌<◌, ◌≤◌, List, [], ◌∷◌, drop, Ok, Err, sym, refl, ap, ◌∙◌, ⊎_elim, arith}
-use mathlib.Core.Bool
-use Rattle.std.proofs.lemmas.Bool.{cond-false, lt-leb, ne_eqb, cases_lt}
+use Rattle.std.proofs.Common.{◌≡◌, ℕ, zero, suc, ◌+◌, ◌-◌, ◌*◌, ◌<◌, List, [], ◌∷◌, drop, Ok, Err, refl, ap, ◌∙◌, arith}
 use Rattle.std.specs.List.{slice_get}
 use Rattle.cells.specs.declared.cell.Cell.{Cell}
 use Rattle.cells.specs.declared.cell.Cell.TheVariants.{Byte, Lost}
@@ -9,7 +7,7 @@ use Rattle.cells.specs.declared.cell.ReadFault.{ReadFault}
 use Rattle.cells.specs.declared.cell.ReadFault.TheVariants.{PastEnd, LostCell}
 use Rattle.cells.specs.Cells.{answered, read_at}
 use Rattle.meaning.specs.Refusals.{from_read}
-use Rattle.meaning.specs.Values.{Outcome, ◌then◌, limited, is_true, unsigned}
+use Rattle.meaning.specs.Values.{Outcome, ◌then◌, unsigned}
 use Rattle.content.specs.Content.{held}
 
 next_ok : (cs : List Cell) (j k n w b : ℕ) → answered j (slice_get cs k) ≡ Ok b → unsigned n (suc w) (drop k cs) ≡ unsigned (n * 256 + b) w (drop (suc k) cs)
@@ -25,21 +23,7 @@ next_err (Byte x ∷ cs) j zero n w f e = absurd (let z : ◌≡◌ {A = ℕ} 0 
 next_err (Lost m ∷ cs) j zero n w f e = let s : LostCell m ≡ f = cc in ap (λ y. Err (from_read y)) s
 next_err (c ∷ cs) j (suc k) n w f e = next_err cs j k n w f e
 
-same_limit : (a b : ℕ) → held a ≡ held b → limited a ≡ limited b
-same_limit a b e =
-    ⊎_elim (λ (h : a < 0x8000_0000_0000_0000). let s : a ≡ b = omega arith in ap limited s)
-    (λ (h : 0x8000_0000_0000_0000 ≤ a).
-    cond-false _ _ _ (lt-leb a 0x7fff_ffff_ffff_ffff (omega arith)) ∙ sym (cond-false _ _ _ (lt-leb b 0x7fff_ffff_ffff_ffff (omega arith))))
-    (cases_lt a 0x8000_0000_0000_0000)
-
--- so held, numbers are within or above the limit as they were, and 0 or not
-pub held_limit : (n : ℕ) → limited (held n) ≡ limited n
-held_limit n = same_limit (held n) n (omega arith)
-
-pub held_true : (n : ℕ) → is_true (held n) ≡ is_true n
-held_true zero = refl
-held_true (suc n) = ap Bool.not (ne_eqb (held (suc n)) 0 (λ (e : held (suc n) ≡ 0). omega arith) ∙ sym (ne_eqb (suc n) 0 (λ (e : suc n ≡ 0). omega arith)))
-
+-- a number, held just above the limit
 abbrev kept : ℕ → Outcome ℕ
 kept n = Ok (held n)
 
@@ -68,18 +52,3 @@ module _ (cs : List Cell) (k e n : ℕ) (h : k < e) where
   pub digit_refused : (f : ReadFault) → read_at cs k ≡ Err f → (unsigned n (e - k) (drop k cs) then kept) ≡ Err (from_read f)
   digit_refused f r =
       ap (λ w. unsigned n w (drop k cs) then kept) left ∙ ap (λ x. x then kept) (next_err cs k k n (e - (k + 1)) f r)
-
--- at first all the cells of a piece are left, which has w of them from q on
-pub all_left : (cs : List Cell) (e p q w : ℕ) → p ≡ q → e - p ≡ w
-    → (unsigned 0 (e - p) (drop p cs) then kept) ≡ (unsigned 0 w (drop q cs) then kept)
-all_left cs e p q w h k = ap (λ x. unsigned 0 x (drop p cs) then kept) k ∙ ap (λ y. unsigned 0 w (drop y cs) then kept) h
-
-pub none_left : (cs : List Cell) (e k n : ℕ) → e ≤ k → n ≤ 0x8000_0000_0000_0000 → Ok n ≡ (unsigned n (e - k) (drop k cs) then kept)
-none_left cs e k n h l =
-    let z : e - k ≡ 0 = omega arith in
-    let m : n ≡ held n = omega arith in
-    ap Ok m ∙ sym (ap (λ w. unsigned n w (drop k cs) then kept) z)
-
-pub held_then : {X : Type 0} (x : Outcome ℕ) (f g : ℕ → Outcome X) → ((n : ℕ) → f (held n) ≡ g n) → ((x then kept) then f) ≡ (x then g)
-held_then (Ok n) f g h = h n
-held_then (Err e) f g h = refl

@@ -8,9 +8,7 @@ ghost use Rattle.content.specs.Content.{held, held_value, value_of, truth_of};
 use cells::source::Source;
 use meaning::EvalFault;
 use path::Piece;
-
-// The largest number that has a value.
-const LIMIT: u64 = 0x7fff_ffff_ffff_ffff;
+use sheet_text::LIMIT;
 
 // The number, if there is one and it is not above the limit.
 fn within(n: Option<u64>) -> Result<u64, EvalFault>
@@ -48,6 +46,7 @@ fn digits<S: Source>(source: &S, piece: &Piece) -> Result<u64, EvalFault>
 {
     let place = usize::from(piece.place);
     let mut n = 0;
+    // A source has no slice to go over: it is read place by place.
     for k in place..place + usize::from(piece.width) {
         n = grown(n, source.read(k)?);
     }

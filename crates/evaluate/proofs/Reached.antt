@@ -1,6 +1,6 @@
 -- A path that grows by a step.
-use Rattle.std.proofs.Common.{◌≡◌, ℕ, zero, suc, ◌+◌, ◌≤◌, Bool, true, false, cond, ◌&&◌, ltb, List, [], ◌∷◌, ◌++◌, map, length, take, Some, None, Option, sym, refl, ap, ◌∙◌, subst, ap₂, append_assoc, append-nil, arith, length-append, MatchOption}
-use Rattle.std.proofs.lemmas.Bool.{cond-true, cond-false, lt-ltb, le-ltb, le-leb, and_parts, ltb-true}
+use Rattle.std.proofs.Common.{◌≡◌, ℕ, zero, suc, ◌≤◌, Bool, true, false, cond, ◌&&◌, ltb, List, [], ◌∷◌, ◌++◌, map, length, take, Some, None, Option, sym, refl, ap, ◌∙◌, subst, ap₂, append_assoc, append-nil, arith, length-append}
+use Rattle.std.proofs.lemmas.Bool.{cond-false, lt-ltb, le-leb, and_parts, ltb-true}
 use Rattle.path.specs.declared.Step.{Step}
 use Rattle.path.specs.declared.Step.TheVariants.{Field, Index}
 use Rattle.path.specs.declared.Path.{Path}
@@ -10,7 +10,7 @@ use Rattle.sheet_text.specs.Plain.{ProperName}
 use Rattle.sheet_text.proofs.Plain.{name_is}
 use Rattle.std.proofs.lemmas.Bool.{false_from_ne_true}
 use Rattle.path.proofs.Laws.{lawful_path}
-use Rattle.evaluate.specs.Reaches.{fits, push, extend, reach_of}
+use Rattle.evaluate.specs.Reaches.{fits, push, extend}
 
 pub fits_step : (s : Step) → fits (step_of s) ≡ true
 fits_step (Field n) = n.proper
@@ -18,14 +18,6 @@ fits_step (Index i) = le-leb _ _ i.small
 
 pub path_short : (p : Path) → length (path_of p) ≤ 8
 path_short p = (lawful_path p).few
-
-pub child_push : (p : Path) (s : Step) (r : Option Path) → MatchOption r (8 ≤ length (path_of p)) (λ q. path_of q ≡ path_of p ++ step_of s ∷ [])
-    → reach_of r ≡ push (Some (path_of p)) (step_of s)
-child_push p s None h = sym (cond-false _ _ _ (ap (λ b. b && fits (step_of s)) (le-ltb (length (path_of p)) 8 h)))
-child_push p s (Some q) h =
-    let k = path_short q in
-    let e : length (path_of q) ≡ length (path_of p) + 1 = ap length h ∙ length-append (path_of p) (step_of s ∷ []) in
-    ap Some h ∙ sym (cond-true _ _ _ (ap₂ ◌&&◌ (lt-ltb (length (path_of p)) 8 (omega arith)) (fits_step s)))
 
 and_false : (a : Bool) → (a && false) ≡ false
 and_false true = refl

@@ -19,6 +19,7 @@ mod reach;
 mod rows;
 mod truths;
 
+// What is told stands here: inside the cycle of calls every return would owe it.
 impl<S: Source> Evaluation<'_, '_, '_, S> {
     // The value of a number row, after the pieces.
     pub fn number(&self, pieces: &mut BoundedList<'_, Piece>, row: usize) -> Result<u64, EvalFault>

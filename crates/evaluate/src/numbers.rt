@@ -9,7 +9,7 @@ ghost use Rattle.evaluate.specs.Evaluated.{as_piece, number_value, number_of_row
 use crate::evaluation::Evaluation;
 use crate::lookup::find_piece;
 use crate::reach::{into_element, into_field};
-use crate::rows::{number_in, ref_in, row_at};
+use crate::rows::{ref_in, row_at};
 use cells::source::Source;
 use content::{product, sum, value_of};
 use list::BoundedList;
@@ -32,7 +32,9 @@ impl<S: Source> Evaluation<'_, '_, '_, S> {
         self.number_by(pieces, row, row_at(self.sheet, row))
     }
 
-    // The value of a number row by its word and columns.
+    // The value of a number row by its word and columns. Apart from `number_at`, as are the others whose names
+    // end in `by`, so that what the row refers to is said once, and each case is proved with no answer; `row` is
+    // there for the measure.
     #[cycle(numbers_and_locations)]
     fn number_by(
         &self,
@@ -48,7 +50,7 @@ impl<S: Source> Evaluation<'_, '_, '_, S> {
             return Err(EvalFault::NoValue);
         };
         match word {
-            NumberWord::Lit => Ok(number_in(r.one)),
+            NumberWord::Lit => Ok(r.one.number().unwrap_or(0)),
             NumberWord::Loc => {
                 let piece = self.piece_at(pieces, target(r.one))?;
                 value_of(self.source, &piece)
@@ -82,7 +84,7 @@ impl<S: Source> Evaluation<'_, '_, '_, S> {
         };
         let start = self
             .records
-            .climb(number_in(r.one))
+            .climb(r.one.number().unwrap_or(0))
             .ok_or(EvalFault::NoValue)?;
         let reach = self.steps(pieces, ref_in(r.two), Some(start))?;
         find_piece(pieces, reach.ok_or(EvalFault::NoValue)?)

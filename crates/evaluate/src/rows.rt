@@ -1,6 +1,5 @@
 // The rows of a sheet and their columns.
 ghost use Rattle.std.specs.Prelude.{◌≡◌};
-ghost use Rattle.sheet.specs.Checks.{target};
 ghost use Rattle.sheet.specs.Sheets.{rows_of};
 ghost use Rattle.meaning.specs.Forward.{ref_of, row_at};
 ghost use Rattle.meaning.specs.Stands.{is_bool};
@@ -8,18 +7,11 @@ ghost use Rattle.meaning.specs.Stands.{is_bool};
 use sheet::CheckedSheet;
 use sheet_text::{Base, Column, Row, TypeWord, Word};
 
-// The row with a number; void past the last row.
+// The row with a number. Past the last row it is void, as in the definitions, which need no case for it.
 pub(crate) fn row_at(sheet: &CheckedSheet<'_, '_>, row: usize) -> Row
     ensures { result ≡ row_at (rows_of sheet.now) row }
 {
     sheet.rows().get(row).copied().unwrap_or(Row::BLANK)
-}
-
-// The number that a column holds.
-pub(crate) fn number_in(column: Column) -> u64
-    ensures { result ≡ target column }
-{
-    column.number().unwrap_or(0)
 }
 
 // The row that a column names, if it names one.

@@ -62,24 +62,16 @@ impl<S: Source> Evaluation<'_, '_, '_, S> {
             }
             TruthWord::Not => Ok(!self.truth_at(pieces, target(r.one))?),
             TruthWord::And => {
-                let a = self.truth_at(pieces, target(r.one))?;
-                let b = self.truth_at(pieces, target(r.two))?;
-                Ok(a & b)
+                Ok(self.truth_at(pieces, target(r.one))? & self.truth_at(pieces, target(r.two))?)
             }
             TruthWord::Or => {
-                let a = self.truth_at(pieces, target(r.one))?;
-                let b = self.truth_at(pieces, target(r.two))?;
-                Ok(a | b)
+                Ok(self.truth_at(pieces, target(r.one))? | self.truth_at(pieces, target(r.two))?)
             }
             TruthWord::Eq => {
-                let a = self.number_at(pieces, target(r.one))?;
-                let b = self.number_at(pieces, target(r.two))?;
-                Ok(a == b)
+                Ok(self.number_at(pieces, target(r.one))? == self.number_at(pieces, target(r.two))?)
             }
             TruthWord::Lt => {
-                let a = self.number_at(pieces, target(r.one))?;
-                let b = self.number_at(pieces, target(r.two))?;
-                Ok(a < b)
+                Ok(self.number_at(pieces, target(r.one))? < self.number_at(pieces, target(r.two))?)
             }
         }
     }

@@ -1,4 +1,5 @@
-// What a caller can do with a list.
+// What a caller can do with a list. What a call leaves as it was stands at each call: it speaks of two
+// values of the list, so it is no fact of its type.
 ghost use Rattle.std.specs.Prelude.{◌≡◌, ℕ, ◌-◌, ◌<◌, [], ◌∷◌, ◌++◌, length, take, if◌then◌else◌, MatchResult, nat_lt, slice_set};
 ghost use Rattle.std.specs.List.{slice_get};
 ghost use Rattle.list.specs.Contents.{backing, contents, first_of, room, used};

@@ -8,7 +8,8 @@ mod places;
 #[cfg(test)]
 mod tests;
 
-// Said by `push` where every place of the slice is in use.
+// Said by `push` where every place of the slice is in use. A line says the same by a struct of its own: the
+// two share no crate, and one for a struct without fields would be no plainer.
 #[derive(Clone, Copy)]
 pub struct Full;
 

@@ -1,4 +1,5 @@
-// The places of a slice, of which the first `count` are in use.
+// The places of a slice, of which the first `count` are in use. These are functions and no methods: each
+// call of a list hands the slice to one that takes it for writing.
 ghost use Rattle.std.specs.Prelude.{◌≡◌, ◌<◌, min, length, take, if◌then◌else◌, nat_lt, slice_set};
 ghost use Rattle.std.specs.List.{slice_get};
 ghost use Rattle.list.specs.Contents.{first_of};

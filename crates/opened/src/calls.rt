@@ -6,24 +6,6 @@ ghost use Rattle.opened.specs.Opens.{records_of, as_path};
 use super::{Opened, RECORDS_MAX};
 use path::{Path, Step};
 
-// The lengths, with another at a place.
-fn with_len(lens: [u8; 9], at: usize, len: u8) -> [u8; 9]
-    requires { at < 9 }
-    ensures { result ≡ slice_set lens at len }
-{
-    let mut lens = lens;
-    lens[at] = len;
-    lens
-}
-
-// The place of the record k further out than the innermost of so many.
-fn place_of(count: u8, k: u64) -> usize
-    requires { k < count }
-    ensures { result ≡ count - 1 - k }
-{
-    count as usize - 1 - k as usize
-}
-
 impl Opened {
     // At the root, with no open record.
     pub fn root() -> Opened
@@ -41,8 +23,7 @@ impl Opened {
     pub fn path(&self) -> Path
         ensures { result ≡ self.now.path }
     {
-        let Opened { path, .. } = *self;
-        path
+        self.path
     }
 
     // One step further down, with the same records open, unless the path has all its steps.
@@ -50,25 +31,29 @@ impl Opened {
         ensures { MatchOption result (8 ≤ length (path_of self.path)) (λ q. (path_of q.path ≡ path_of self.path ++ step_of step ∷ []) × (records_of q ≡ records_of self)) }
     {
         let path = self.path.child(step)?;
+        // In a variable first: the borrow checker has no rule yet for an array from field to field.
         let lens = self.lens;
-        let count = self.count;
-        Some(Opened { path, lens, count })
+        Some(Opened {
+            path,
+            lens,
+            count: self.count,
+        })
     }
 
     // The record here opened as the innermost, unless nine are open.
     pub fn opened(self) -> Option<Opened>
         ensures { MatchOption result (9 ≤ length (records_of self)) (λ q. (path_of q.path ≡ path_of self.path) × (records_of q ≡ path_of self.path ∷ records_of self)) }
     {
-        let count = self.count;
-        if count >= 9 {
+        let count = self.count as usize;
+        if count >= RECORDS_MAX {
             return None;
         }
-        let path = self.path;
-        let lens = with_len(self.lens, count as usize, path.len() as u8);
+        let mut lens = self.lens;
+        lens[count] = self.path.len() as u8;
         Some(Opened {
-            path,
+            path: self.path,
             lens,
-            count: count + 1,
+            count: self.count + 1,
         })
     }
 
@@ -79,7 +64,7 @@ impl Opened {
         if k >= self.count as u64 {
             return None;
         }
-        let len = self.lens[place_of(self.count, k)];
+        let len = self.lens[self.count as usize - 1 - k as usize];
         Some(self.path.front(len as usize))
     }
 }

@@ -1,9 +1,8 @@
 -- The steps of a path, one by one.
-use Rattle.std.proofs.Common.{◌≡◌, ℕ, ◌<◌, Bool, true, false, cond, ◌&&◌, List, [], ◌∷◌, map, length, get_or, take, Some, refl, ap, ◌∙◌, arith}
+use Rattle.std.proofs.Common.{◌≡◌, Bool, true, false, cond, ◌&&◌, List, [], ◌∷◌, map, length, take, refl, ap, ◌∙◌, arith}
 use Rattle.std.specs.Cmp.Lexicographic.{pointwise}
-use Rattle.std.specs.List.{slice_get, AllByRecursion}
-use Rattle.std.proofs.lemmas.List.{length-map, length-take-le, get_or-map, get_or-take}
-use Rattle.std.proofs.lemmas.Option.{slice_get-get_or}
+use Rattle.std.specs.List.{AllByRecursion}
+use Rattle.std.proofs.lemmas.List.{length-map, length-take-le}
 use Rattle.sheet_text.proofs.Plain.{name_is}
 use Rattle.path.specs.declared.Path.{Path}
 use Rattle.path.specs.declared.Step.{Step}
@@ -26,11 +25,6 @@ module _ (p : Path) where
 
   pub path_length : length (path_of p) ≡ p.len
   path_length = length-map (take p.len p.steps) step_of ∙ steps_length
-
-  pub step_at : (k : ℕ) (s : Step) → k < p.len → slice_get (path_of p) k ≡ Some (step_of (get_or p.steps k s))
-  step_at k s h =
-      slice_get-get_or (path_of p) k (step_of s) (omega (arith, path_length))
-      ∙ ap Some (get_or-map step_of (take p.len p.steps) k s (step_of s) (omega (arith, steps_length)) ∙ ap step_of (get_or-take p.len p.steps k s h))
 
   pub lawful_path : LawfulPath (path_of p)
   lawful_path = record { few = omega (arith, path_length, p.short); each = all_lawful (take p.len p.steps) }

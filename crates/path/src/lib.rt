@@ -30,14 +30,15 @@ pub struct Element {
     ghost small: { number ≤ 65534 },
 }
 
-// One step of a path: into a field of a record or into an element of an array.
+// One step of a path: into a field of a record or into an element of an array. Neither is a failure, so
+// it is an enum of its own and no Result.
 #[derive(Clone, Copy)]
 pub enum Step {
     Field(Name),
     Index(Element),
 }
 
-// The first `len` of the steps, from the root down.
+// The first `len` of the steps, from the root down, in fixed memory as a name.
 #[derive(Clone, Copy)]
 pub struct Path {
     steps: [Step; 8],

@@ -40,6 +40,7 @@ impl Path {
     pub fn front(self, n: usize) -> Path
         ensures { path_of result ≡ take n (path_of self) }
     {
+        // In a variable first: the borrow checker has no rule yet for an array from field to field.
         let steps = self.steps;
         let len = n.min(self.len as usize);
         Path {

@@ -11,12 +11,11 @@ invariant_of-result c =
     let P = path_of s.path in
     let n = s.count in
     let short : n < length s.lens = omega (arith, s.full) in
-    let more : n + 1 ≡ suc n = omega arith in
-    let w = c.with_len-lens.ensures in record {
+    let more : n + 1 ≡ suc n = omega arith in record {
       few = omega arith;
-      full = ap length w ∙ length-set s.lens n c.len.result ∙ s.full;
+      full = length-set s.lens n c.len.result ∙ s.full;
       inside =
-          ap (λ ls. below (length P) ls (n + 1)) w ∙ ap (λ k. below (length P) (set s.lens n k) (n + 1)) c.len.ensures.value ∙ ap (λ m. below (length P) (set s.lens n (length P)) m) more
+          ap (λ k. below (length P) (set s.lens n k) (n + 1)) c.len.ensures.value ∙ ap (λ m. below (length P) (set s.lens n (length P)) m) more
           ∙ open_below (length P) s.lens n short s.inside;
     }
 
@@ -26,9 +25,8 @@ returns c =
     let P = path_of s.path in
     let n = s.count in
     let short : n < length s.lens = omega (arith, s.full) in
-    let more : n + 1 ≡ suc n = omega arith in
-    let w = c.with_len-lens.ensures in (
+    let more : n + 1 ≡ suc n = omega arith in (
       refl,
-      ap (λ ls. fronts P ls (n + 1)) w ∙ ap (λ k. fronts P (set s.lens n k) (n + 1)) c.len.ensures.value ∙ ap (λ m. fronts P (set s.lens n (length P)) m) more
+      ap (λ k. fronts P (set s.lens n k) (n + 1)) c.len.ensures.value ∙ ap (λ m. fronts P (set s.lens n (length P)) m) more
           ∙ fronts_open P s.lens n short,
     )

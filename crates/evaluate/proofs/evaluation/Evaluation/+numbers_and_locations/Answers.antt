@@ -2,6 +2,7 @@ use Rattle.std.proofs.Common.{◌≡◌, length, None, Some, Ok, sym, ap, ◌∙
 use Rattle.list.specs.Contents.{contents}
 use Rattle.path.specs.Meaning.{path_of}
 use Rattle.meaning.specs.Forward.{ref_of}
+use Rattle.sheet.specs.Checks.{target}
 use Rattle.meaning.specs.Terms.{pieces_of}
 use Rattle.meaning.specs.Values.{climbed, placed}
 use Rattle.opened.specs.Opens.{records_of}
@@ -32,20 +33,22 @@ piece_at-steps-requires g t c κs within =
 pub piece_at-returns-in_err-ok_or-clause-value : goal.piece_at-returns-in_err-ok_or-clause-value
 piece_at-returns-in_err-ok_or-clause-value g t c =
     let s = c.args.self.now in
-    let at : Ok (path_of c.in_ok-start.start) ≡ climbed (records_of s.records.now) c.number_in.result = search rules in
+    let climb : c.unwrap_or.result ≡ target c.row_at-r.result.one = search rules in
+    let at : Ok (path_of c.in_ok-start.start) ≡ climbed (records_of s.records.now) c.unwrap_or.result = search rules in
     let here : c.in_ok-reach.reach ≡ None = search rules in
     let p = place_none (g.S.Source.cells s.source.now) s.sheet.now c.args.pieces.now s.records.now c.args.row
-    c.row_at-r.result c.row_at-r.ensures c.in-From.is c.number_in.result c.number_in.ensures c.ref_in.result c.ref_in.ensures
+    c.row_at-r.result c.row_at-r.ensures c.in-From.is c.unwrap_or.result climb c.ref_in.result c.ref_in.ensures
     c.in_ok-start.start at c.in_ok-reach.reach c.in_ok-reach.ensures.value here in
     search rules
 
 pub piece_at-returns-clause-value : goal.piece_at-returns-clause-value
 piece_at-returns-clause-value g t c =
     let s = c.args.self.now in
-    let at : Ok (path_of c.in_ok-start.start) ≡ climbed (records_of s.records.now) c.number_in.result = search rules in
+    let climb : c.unwrap_or.result ≡ target c.row_at-r.result.one = search rules in
+    let at : Ok (path_of c.in_ok-start.start) ≡ climbed (records_of s.records.now) c.unwrap_or.result = search rules in
     let here : c.in_ok-reach.reach ≡ Some c.in_ok-ok_or.field-0 = search rules in
     let p = place_some (g.S.Source.cells s.source.now) s.sheet.now c.args.pieces.now s.records.now c.args.row
-    c.row_at-r.result c.row_at-r.ensures c.in-From.is c.number_in.result c.number_in.ensures c.ref_in.result c.ref_in.ensures
+    c.row_at-r.result c.row_at-r.ensures c.in-From.is c.unwrap_or.result climb c.ref_in.result c.ref_in.ensures
     c.in_ok-start.start at c.in_ok-reach.reach c.in_ok-reach.ensures.value c.in_ok-ok_or.field-0 here in
     c.find_piece.ensures.value ∙ ap (λ l. placed (pieces_of (contents l)) (path_of c.in_ok-ok_or.field-0)) c.steps.ensures.same ∙ sym p
 
