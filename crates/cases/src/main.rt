@@ -1,7 +1,7 @@
 // Prints the listing of each input that the arguments name, and then of long inputs.
 #![tactic(auto)]
 
-use anyhow::anyhow;
+use anyhow::Context;
 use input::INPUT_MAX;
 use line::Line;
 use listing::{LISTING_MAX, write_listing};
@@ -18,9 +18,7 @@ fn list_with<'a>(
     places: &'a mut [u8],
 ) -> anyhow::Result<Line<'a>> {
     let mut line = Line::new(places);
-    write_listing(bytes, table, &mut line).map_err(|_| anyhow!(
-        "the listing is longer than its buffer"
-    ))?;
+    write_listing(bytes, table, &mut line).context("the listing is longer than its buffer")?;
     Ok(line)
 }
 

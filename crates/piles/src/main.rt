@@ -36,6 +36,7 @@ fn show(rt: &HostRuntime, answer: Result<u8, ReadFault>) -> io::Result<()> {
 fn show_all<S: Source>(rt: &HostRuntime, source: &S) -> io::Result<()> {
     let count = source.len();
     println!(rt; "  {count} cells")?;
+    // A source has no slice to go over: it is read place by place.
     for k in 0..count {
         show(rt, source.read(k))?;
     }

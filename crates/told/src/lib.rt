@@ -4,7 +4,8 @@
 ghost use Rattle.std.specs.Prelude.{◌≡◌};
 ghost use Rattle.told.specs.Answers.{bare};
 
-// A value that a refusal lacks is `None`.
+// A value that a refusal lacks is `None`. The number is no enum, since it is what a listing prints: each
+// crate that refuses has an error enum of its own, and tells it by `From`.
 #[derive(Clone, Copy)]
 pub struct Told {
     pub number: u8,
