@@ -4,15 +4,15 @@ ghost use Rattle.cells.specs.Refusals.{read_told, capture_told};
 
 use told::Told;
 
-// The mark of a lost cell: the place that the cell had in its capture, and the number of layers
-// that the mark has come through.
+/// The mark of a lost cell: the place that the cell had in its capture, and the number of layers
+/// that the mark has come through.
 #[derive(Clone, Copy)]
 pub struct Mark {
     pub place: u16,
     pub layers: u8,
 }
 
-// Kept as an enum of its own, and no Result: a lost cell is part of a message, and no failure.
+/// Kept as an enum of its own, and no Result: a lost cell is part of a message, and no failure.
 #[derive(Clone, Copy)]
 pub enum Cell {
     Byte(u8),
@@ -26,7 +26,7 @@ pub enum ReadFault {
     LostCell(Mark),
 }
 
-// A pair of a capture that is bad or cut: the place of its first character.
+/// A pair of a capture that is bad or cut: the place of its first character.
 #[derive(Clone, Copy)]
 pub struct CaptureFault {
     pub place: usize,

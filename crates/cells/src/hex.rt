@@ -2,7 +2,7 @@
 ghost use Rattle.std.specs.Prelude.{◌≡◌};
 ghost use Rattle.cells.specs.Hex.{pair_in};
 
-// Kept as an enum of its own, and no Option: `--` says something, and `None` is no pair at all.
+/// Kept as an enum of its own, and no Option: `--` says something, and `None` is no pair at all.
 #[derive(Clone, Copy)]
 pub enum Pair {
     // two hexadecimal digits, and their byte
@@ -11,7 +11,7 @@ pub enum Pair {
     Dashes,
 }
 
-// The pair that these characters are, unless it is bad or cut.
+/// The pair that these characters are, unless it is bad or cut.
 pub fn read_pair(pair: &[u8]) -> Option<Pair>
     ensures { result ≡ pair_in pair.now }
 {

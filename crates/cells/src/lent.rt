@@ -7,7 +7,7 @@ ghost use Rattle.cells.specs.Laws.{lent_lawful, lent_whole};
 use crate::cell::ReadFault;
 use crate::source::{Source, Store};
 
-// What can be lent to a store. The module is private: no other crate asks a unit for a byte that it lacks.
+/// What can be lent to a store. The module is private: no other crate asks a unit for a byte that it lacks.
 pub trait Unit: Copy + Drop {
     // the bytes of a unit, in order
     ghost bytes: { Self → List ℕ };
@@ -26,12 +26,12 @@ pub trait Unit: Copy + Drop {
     // what each `impl` must prove
     ghost laws: { UnitLaws bytes WIDTH cells spares };
 
-    // Byte i.
+    /// Byte i.
     fn byte(self, i: usize) -> u8
         requires { i < WIDTH }
         ensures { result ≡ slice_index (bytes self) i };
 
-    // The unit with b for byte i.
+    /// The unit with b for byte i.
     fn with_byte(self, i: usize, b: u8) -> Self
         requires { i < WIDTH }
         ensures { bytes result ≡ slice_set (bytes self) i b };

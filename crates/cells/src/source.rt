@@ -13,11 +13,11 @@ pub trait Source {
     // what each `impl` must prove of every message
     ghost lawful: { (s : Self) → Lawful (cells s) };
 
-    // The number of cells.
+    /// The number of cells.
     fn len(&self) -> usize
         ensures { result ≡ length (cells self.now) };
 
-    // The byte at k, or why there is none.
+    /// The byte at k, or why there is none.
     fn read(&self, k: usize) -> Result<u8, ReadFault>
         ensures { Answers (cells self.now) k result };
 }
@@ -29,8 +29,8 @@ pub trait Store: Source {
     // the ghost names of the memory lent to it, and the numbers of its layers
     ghost fixed: { Self → List ℕ };
 
-    // Makes cell k the byte b, and answers the byte that stood there. Past the end it refuses,
-    // and `slice_set` then leaves the list as it is.
+    /// Makes cell k the byte b, and answers the byte that stood there. Past the end it refuses,
+    /// and `slice_set` then leaves the list as it is.
     fn write(&mut self, k: usize, b: u8) -> Result<u8, ReadFault>
         ensures whole { NoneLost (Self.cells self.old) }
         ensures answer { Answers (Self.cells self.old) k result }

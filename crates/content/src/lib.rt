@@ -17,14 +17,14 @@ fn within(n: Option<u64>) -> Result<u64, EvalFault>
     n.filter(|m| *m <= LIMIT).ok_or(EvalFault::NoValue)
 }
 
-// The sum of two numbers.
+/// The sum of two numbers.
 pub fn sum(a: u64, b: u64) -> Result<u64, EvalFault>
     ensures { result ≡ limited (a + b) }
 {
     within(a.checked_add(b))
 }
 
-// The product of two numbers.
+/// The product of two numbers.
 pub fn product(a: u64, b: u64) -> Result<u64, EvalFault>
     ensures { result ≡ limited (a * b) }
 {
@@ -53,14 +53,14 @@ fn digits<S: Source>(source: &S, piece: &Piece) -> Result<u64, EvalFault>
     Ok(n)
 }
 
-// The number that the cells of a piece write, if it is not above the limit.
+/// The number that the cells of a piece write, if it is not above the limit.
 pub fn value_of<S: Source>(source: &S, piece: &Piece) -> Result<u64, EvalFault>
     ensures { result ≡ value_of (S.Source.cells source.now) piece.now }
 {
     within(Some(digits(source, piece)?))
 }
 
-// Whether the cells of a piece write another number than 0.
+/// Whether the cells of a piece write another number than 0.
 pub fn is_true<S: Source>(source: &S, piece: &Piece) -> Result<bool, EvalFault>
     ensures { result ≡ truth_of (S.Source.cells source.now) piece.now }
 {

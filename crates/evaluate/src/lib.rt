@@ -21,7 +21,7 @@ mod truths;
 
 // What is told stands here: inside the cycle of calls every return would owe it.
 impl<S: Source> Evaluation<'_, '_, '_, S> {
-    // The value of a number row, after the pieces.
+    /// The value of a number row, after the pieces.
     pub fn number(&self, pieces: &mut BoundedList<'_, Piece>, row: usize) -> Result<u64, EvalFault>
         ensures told { as_told eval_told result ≡ as_told eval_told (number_value (S.Source.cells self.now.source.now) self.now.sheet.now pieces.old self.now.records.now row) }
         ensures value { result ≡ number_value (S.Source.cells self.now.source.now) self.now.sheet.now pieces.old self.now.records.now row }
@@ -30,7 +30,7 @@ impl<S: Source> Evaluation<'_, '_, '_, S> {
         self.number_at(pieces, row)
     }
 
-    // The value of a truth row.
+    /// The value of a truth row.
     pub fn truth(&self, pieces: &mut BoundedList<'_, Piece>, row: usize) -> Result<bool, EvalFault>
         ensures told { as_told eval_told result ≡ as_told eval_told (truth_value (S.Source.cells self.now.source.now) self.now.sheet.now pieces.old self.now.records.now row) }
         ensures value { result ≡ truth_value (S.Source.cells self.now.source.now) self.now.sheet.now pieces.old self.now.records.now row }
@@ -39,7 +39,7 @@ impl<S: Source> Evaluation<'_, '_, '_, S> {
         self.truth_at(pieces, row)
     }
 
-    // The piece that the location of a `from` row names.
+    /// The piece that the location of a `from` row names.
     pub fn location(
         &self,
         pieces: &mut BoundedList<'_, Piece>,

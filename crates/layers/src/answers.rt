@@ -8,8 +8,8 @@ ghost use Rattle.layers.specs.Layers.{passed_up, aged};
 
 use cells::cell::{Mark, ReadFault};
 
-// The answer of a layer at k, from the answer of the cell below: a mark has come through one
-// more layer, and a missing cell is told by the layer's own place.
+/// The answer of a layer at k, from the answer of the cell below: a mark has come through one
+/// more layer, and a missing cell is told by the layer's own place.
 pub fn passed_up(k: usize, answer: Result<u8, ReadFault>) -> Result<u8, ReadFault>
     ensures is { result ≡ passed_up k answer }
     ensures layer { (below layer : List Cell) (at : ℕ) → slice_get layer k ≡ option_map aged (slice_get below at) → Answers below at answer → Answers layer k result }

@@ -8,7 +8,7 @@ use crate::answers::passed_up;
 use cells::cell::ReadFault;
 use cells::source::{Source, Store};
 
-// Which of the cells below a layer has, and where.
+/// Which of the cells below a layer has, and where.
 pub trait Placing {
     // what the layer means over these cells
     ghost layer: { Self → List Cell → List Cell };
@@ -29,11 +29,11 @@ pub trait Placing {
 
     ghost whole: { (p : Self) (below : List Cell) → NoneLost below → NoneLost (layer p below) };
 
-    // How many cells the layer has over n.
+    /// How many cells the layer has over n.
     fn len(&self, n: usize) -> usize
         ensures { result ≡ count self.now n };
 
-    // The place below, among n cells, of cell k.
+    /// The place below, among n cells, of cell k.
     fn place(&self, n: usize, k: usize) -> Option<usize>
         ensures { (below : List Cell) → length below ≡ n → Placed (layer self.now) (left_out self.now) below k result };
 }

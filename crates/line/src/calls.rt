@@ -23,7 +23,7 @@ impl<'a> Line<'a> {
         self.as_bytes().len()
     }
 
-    // How many bytes can still be appended.
+    /// How many bytes can still be appended.
     pub fn free(&self) -> usize
         ensures { used self.now + result ≡ room self.now }
     {
@@ -56,7 +56,7 @@ impl<'a> Line<'a> {
         Ok(())
     }
 
-    // Appends `n` in decimal.
+    /// Appends `n` in decimal.
     pub fn push_number(&mut self, n: u64) -> Result<(), Full>
         ensures numeral { Writes n (decimal n) }
         ensures digits { Appends self.old (decimal n) result self.new }
@@ -64,7 +64,7 @@ impl<'a> Line<'a> {
         self.push_text(Buffer::new().format(n).as_bytes())
     }
 
-    // Appends two hexadecimal digits.
+    /// Appends two hexadecimal digits.
     pub fn push_hex(&mut self, byte: u8) -> Result<(), Full>
         ensures { Appends self.old (hex_text byte) result self.new }
     {

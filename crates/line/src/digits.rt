@@ -6,7 +6,7 @@ use itoa::Buffer;
 
 const HEX_DIGITS: &[u8; 16] = b"0123456789abcdef";
 
-// How many digits `n` has.
+/// How many digits `n` has.
 pub fn count_digits(n: u64) -> usize
     ensures { result ≡ length (decimal n) }
 {

@@ -8,7 +8,7 @@ use crate::places::{entry_at, find_in, in_use, kept, places, replace_at, write_a
 use crate::{BoundedList, Full, Test};
 
 impl<'a, T: Copy> BoundedList<'a, T> {
-    // A list with no entry in use.
+    /// A list with no entry in use.
     pub fn new(entries: &'a mut [T]) -> Self
         ensures empty { contents result ≡ [] }
         ensures backing { backing result ≡ entries.old }
@@ -17,7 +17,7 @@ impl<'a, T: Copy> BoundedList<'a, T> {
         BoundedList { entries, count: 0 }
     }
 
-    // How many entries the list can hold.
+    /// How many entries the list can hold.
     pub fn capacity(&mut self) -> usize
         ensures value { result ≡ room self.old }
         ensures same { self.new ≡ self.old }
@@ -25,7 +25,7 @@ impl<'a, T: Copy> BoundedList<'a, T> {
         places(self.entries)
     }
 
-    // How many entries it holds.
+    /// How many entries it holds.
     pub fn len(&mut self) -> usize
         ensures value { result ≡ used self.old }
         ensures same { self.new ≡ self.old }
@@ -34,7 +34,7 @@ impl<'a, T: Copy> BoundedList<'a, T> {
         in_use(self.entries, count)
     }
 
-    // The entry at `i`, if it holds that many.
+    /// The entry at `i`, if it holds that many.
     pub fn get(&mut self, i: usize) -> Option<T>
         ensures value { result ≡ slice_get (contents self.old) i }
         ensures same { self.new ≡ self.old }
@@ -43,7 +43,7 @@ impl<'a, T: Copy> BoundedList<'a, T> {
         entry_at(self.entries, count, i)
     }
 
-    // The first entry that passes a test.
+    /// The first entry that passes a test.
     pub fn find<P: Test<T>>(&mut self, test: &P) -> Option<T>
         ensures value { result ≡ first_of (P.Test.holds test.now) (contents self.old) }
         ensures same { self.new ≡ self.old }
@@ -52,7 +52,7 @@ impl<'a, T: Copy> BoundedList<'a, T> {
         find_in(self.entries, count, test)
     }
 
-    // One entry more, or a refusal exactly if every place is in use.
+    /// One entry more, or a refusal exactly if every place is in use.
     pub fn push(&mut self, x: T) -> Result<(), Full>
         ensures cases { MatchResult result
             (λ _. (used self.old < room self.old)
@@ -71,7 +71,7 @@ impl<'a, T: Copy> BoundedList<'a, T> {
         Ok(())
     }
 
-    // Takes the last entry off.
+    /// Takes the last entry off.
     pub fn pop(&mut self) -> Option<T>
         ensures value { result ≡ slice_get (contents self.old) (used self.old - 1) }
         ensures contents { contents self.new ≡ take (used self.old - 1) (contents self.old) }
@@ -84,7 +84,7 @@ impl<'a, T: Copy> BoundedList<'a, T> {
         last
     }
 
-    // Keeps the first `n` entries, or all if there are no more.
+    /// Keeps the first `n` entries, or all if there are no more.
     pub fn truncate(&mut self, n: usize)
         ensures contents { contents self.new ≡ take n (contents self.old) }
         ensures backing { backing self.new ≡ backing self.old }
@@ -94,7 +94,7 @@ impl<'a, T: Copy> BoundedList<'a, T> {
         self.count = kept(self.entries, count, n);
     }
 
-    // Drops every entry.
+    /// Drops every entry.
     pub fn clear(&mut self)
         ensures contents { contents self.new ≡ [] }
         ensures backing { backing self.new ≡ backing self.old }
@@ -103,7 +103,7 @@ impl<'a, T: Copy> BoundedList<'a, T> {
         self.truncate(0);
     }
 
-    // Puts another entry in the place of the one at `i`, and answers the one that stood there, if there is one.
+    /// Puts another entry in the place of the one at `i`, and answers the one that stood there, if there is one.
     pub fn replace(&mut self, i: usize, x: T) -> Option<T>
         ensures value { result ≡ slice_get (contents self.old) i }
         ensures contents { contents self.new ≡ slice_set (contents self.old) i x }

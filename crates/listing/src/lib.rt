@@ -25,7 +25,7 @@ mod part;
 mod rows;
 mod sink;
 
-// No listing is longer.
+/// No listing is longer.
 pub const LISTING_MAX: usize = 262_144;
 
 // Appends the listing of the message in a capture, or refuses and changes nothing.
@@ -44,8 +44,8 @@ fn write_message(capture: &[u8], out: &mut Line<'_>) -> Result<(), Full>
     }
 }
 
-// Appends the listing of an input, or refuses and changes nothing in the line. The rows of the
-// sheet stand in the table afterwards, as far as they were read.
+/// Appends the listing of an input, or refuses and changes nothing in the line. The rows of the
+/// sheet stand in the table afterwards, as far as they were read.
 pub fn write_listing(bytes: &[u8], table: &mut [Row], out: &mut Line<'_>) -> Result<(), Full>
     ensures value { Appended out.old (listing (length table.old) bytes.now) result out.new }
     ensures rows { table.new ≡ in_table (read_of (sheet_text bytes.now) (length table.old)).rows table.old }
@@ -59,7 +59,7 @@ pub fn write_listing(bytes: &[u8], table: &mut [Row], out: &mut Line<'_>) -> Res
     }
 }
 
-// The same with a row table of its own, for 256 rows.
+/// The same with a row table of its own, for 256 rows.
 pub fn list(bytes: &[u8], out: &mut Line<'_>) -> Result<(), Full>
     ensures value { Appended out.old (listing 256 bytes.now) result out.new }
     ensures lender { out.new.places.ghost_name ≡ out.old.places.ghost_name }

@@ -7,7 +7,7 @@ use super::{Opened, RECORDS_MAX};
 use path::{Path, Step};
 
 impl Opened {
-    // At the root, with no open record.
+    /// At the root, with no open record.
     pub fn root() -> Opened
         ensures records { records_of result ≡ [] }
         ensures path { path_of result.path ≡ [] }
@@ -19,14 +19,14 @@ impl Opened {
         }
     }
 
-    // The path.
+    /// The path.
     pub fn path(&self) -> Path
         ensures { result ≡ self.now.path }
     {
         self.path
     }
 
-    // One step further down, with the same records open, unless the path has all its steps.
+    /// One step further down, with the same records open, unless the path has all its steps.
     pub fn child(self, step: Step) -> Option<Opened>
         ensures { MatchOption result (8 ≤ length (path_of self.path)) (λ q. (path_of q.path ≡ path_of self.path ++ step_of step ∷ []) × (records_of q ≡ records_of self)) }
     {
@@ -40,7 +40,7 @@ impl Opened {
         })
     }
 
-    // The record here opened as the innermost, unless nine are open.
+    /// The record here opened as the innermost, unless nine are open.
     pub fn opened(self) -> Option<Opened>
         ensures { MatchOption result (9 ≤ length (records_of self)) (λ q. (path_of q.path ≡ path_of self.path) × (records_of q ≡ path_of self.path ∷ records_of self)) }
     {
@@ -57,7 +57,7 @@ impl Opened {
         })
     }
 
-    // The open record so many further out than the innermost, if there are so many.
+    /// The open record so many further out than the innermost, if there are so many.
     pub fn climb(&self, k: u64) -> Option<Path>
         ensures { as_path result ≡ climbed (records_of self.now) k }
     {

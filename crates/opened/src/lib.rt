@@ -9,11 +9,11 @@ mod calls;
 
 use path::Path;
 
-// How many records can be open at once.
+/// How many records can be open at once.
 pub const RECORDS_MAX: usize = 9;
 
-// The open records are fronts of the path; they are kept by their lengths, outermost first. The memory
-// is fixed, since rows stand in lists that callers lend.
+/// The open records are fronts of the path; they are kept by their lengths, outermost first. The memory
+/// is fixed, since rows stand in lists that callers lend.
 #[derive(Clone, Copy)]
 pub struct Opened {
     path: Path,

@@ -8,13 +8,13 @@ mod names;
 mod paths;
 mod pieces;
 
-// How many steps a path can have.
+/// How many steps a path can have.
 pub const STEPS_MAX: usize = 8;
-// The highest number that an element can have.
+/// The highest number that an element can have.
 pub const INDEX_MAX: u64 = 65534;
 
-// The name of a field: the first `len` of the bytes. Names and paths stand whole in pieces, which are
-// copied into lists that callers lend; so they have fixed memory, and no heap text.
+/// The name of a field: the first `len` of the bytes. Names and paths stand whole in pieces, which are
+/// copied into lists that callers lend; so they have fixed memory, and no heap text.
 #[derive(Clone, Copy)]
 pub struct Name {
     bytes: [u8; 16],
@@ -23,22 +23,22 @@ pub struct Name {
     ghost proper: { is_name (take len bytes) ≡ true },
 }
 
-// The number of an element of an array.
+/// The number of an element of an array.
 #[derive(Clone, Copy, PartialEq)]
 pub struct Element {
     number: u16,
     ghost small: { number ≤ 65534 },
 }
 
-// One step of a path: into a field of a record or into an element of an array. Neither is a failure, so
-// it is an enum of its own and no Result.
+/// One step of a path: into a field of a record or into an element of an array. Neither is a failure, so
+/// it is an enum of its own and no Result.
 #[derive(Clone, Copy)]
 pub enum Step {
     Field(Name),
     Index(Element),
 }
 
-// The first `len` of the steps, from the root down, in fixed memory as a name.
+/// The first `len` of the steps, from the root down, in fixed memory as a name.
 #[derive(Clone, Copy)]
 pub struct Path {
     steps: [Step; 8],
@@ -47,7 +47,7 @@ pub struct Path {
     ghost short: { len ≤ 8 },
 }
 
-// A placed base row: where it stands below the root, its row, its first place and its width.
+/// A placed base row: where it stands below the root, its row, its first place and its width.
 #[derive(Clone, Copy)]
 pub struct Piece {
     pub path: Path,

@@ -22,7 +22,7 @@ fn padded(text: &[u8]) -> [u8; 16]
 }
 
 impl Name {
-    // The name that the text is, if it is one.
+    /// The name that the text is, if it is one.
     pub fn new(text: &[u8]) -> Option<Name>
         ensures { MatchOption result
             (ProperName text.now → ⊥)
@@ -60,7 +60,7 @@ impl PartialEq for Name {
 }
 
 impl Element {
-    // The element of this number, unless no element has so high a number.
+    /// The element of this number, unless no element has so high a number.
     pub fn new(number: u64) -> Option<Element>
         ensures { MatchOption result (65534 < number) (λ e. (number ≤ 65534) × (e.number ≡ number)) }
     {

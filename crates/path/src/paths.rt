@@ -10,7 +10,7 @@ ghost use Rattle.path.specs.Equal.{paths_per};
 use super::{Element, Path, STEPS_MAX, Step};
 
 impl Path {
-    // The path without a step.
+    /// The path without a step.
     pub fn root() -> Path
         ensures { path_of result ≡ [] }
     {
@@ -20,7 +20,7 @@ impl Path {
         }
     }
 
-    // One step further down, unless the path has all its steps.
+    /// One step further down, unless the path has all its steps.
     pub fn child(self, step: Step) -> Option<Path>
         ensures { MatchOption result (8 ≤ length (path_of self)) (λ p. path_of p ≡ path_of self ++ step_of step ∷ []) }
     {
@@ -36,7 +36,7 @@ impl Path {
         })
     }
 
-    // The path of the first `n` steps, or all if there are no more.
+    /// The path of the first `n` steps, or all if there are no more.
     pub fn front(self, n: usize) -> Path
         ensures { path_of result ≡ take n (path_of self) }
     {
@@ -49,7 +49,7 @@ impl Path {
         }
     }
 
-    // How many steps the path has.
+    /// How many steps the path has.
     pub fn len(&self) -> usize
         ensures value { result ≡ length (path_of self.now) }
         ensures bound { result ≤ 8 }
@@ -64,7 +64,7 @@ impl Path {
         &self.steps[..self.len as usize]
     }
 
-    // The step at `i`, counted from the root, if there is one.
+    /// The step at `i`, counted from the root, if there is one.
     pub fn step(&self, i: usize) -> Option<Step>
         ensures { option_map step_of result ≡ slice_get (path_of self.now) i }
     {

@@ -4,7 +4,7 @@ ghost use Rattle.path.specs.Meaning.{path_of};
 use super::{Path, Piece};
 
 impl Piece {
-    // A piece to fill a list with.
+    /// A piece to fill a list with.
     pub fn blank() -> Piece
         ensures { (path_of result.path ≡ []) × (result.row ≡ 0) × (result.place ≡ 0) × (result.width ≡ 0) }
     {

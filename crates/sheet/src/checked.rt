@@ -9,7 +9,7 @@ ghost use Rattle.sheet.specs.Verdict.{lawful, verdict, answer, word_if, one_byte
 use super::draft::Draft;
 use sheet_text::{Base, Row, SheetRefusal, TypeWord, Word};
 
-// A sheet: rows over the text that holds their names, which keep every rule.
+/// A sheet: rows over the text that holds their names, which keep every rule.
 #[derive(Clone, Copy)]
 pub struct CheckedSheet<'t, 'r> {
     text: &'t [u8],
@@ -23,7 +23,7 @@ static BYTE: [Row; 1] = [Row {
 }];
 
 impl<'t, 'r> CheckedSheet<'t, 'r> {
-    // The sheet of one u8.
+    /// The sheet of one u8.
     pub fn built_in() -> CheckedSheet<'t, 'r>
         ensures rows { result.rows.now ≡ one_byte }
         ensures text { result.text.now ≡ [] }
@@ -34,7 +34,7 @@ impl<'t, 'r> CheckedSheet<'t, 'r> {
         }
     }
 
-    // Makes this the sheet of the rows over the text, or leaves it as it was where they break a rule.
+    /// Makes this the sheet of the rows over the text, or leaves it as it was where they break a rule.
     #[tactic(auto, using(crate::proofs::Whole::judged))]
     pub fn fill(&mut self, text: &'t [u8], rows: &'r [Row]) -> Result<(), SheetRefusal>
         ensures told { as_told sheet_told result ≡ as_told sheet_told (answer (verdict text.now rows.now)) }
@@ -49,7 +49,7 @@ impl<'t, 'r> CheckedSheet<'t, 'r> {
         Ok(())
     }
 
-    // How many rows it has: 1 to 256.
+    /// How many rows it has: 1 to 256.
     #[tactic(auto, using(crate::proofs::Lawful::some_rows, crate::proofs::Lawful::few_rows))]
     pub fn len(&self) -> usize
         ensures is { result ≡ length self.now.rows.now }
@@ -59,7 +59,7 @@ impl<'t, 'r> CheckedSheet<'t, 'r> {
         self.rows.len()
     }
 
-    // The rows, which keep every rule.
+    /// The rows, which keep every rule.
     #[tactic(auto, using(crate::proofs::Keeping::keeps))]
     pub fn rows(&self) -> &'r [Row]
         ensures is { result.now ≡ self.now.rows.now }
@@ -68,14 +68,14 @@ impl<'t, 'r> CheckedSheet<'t, 'r> {
         self.rows
     }
 
-    // The text that holds the names.
+    /// The text that holds the names.
     pub fn text(&self) -> &'t [u8]
         ensures { result.now ≡ self.now.text.now }
     {
         self.text
     }
 
-    // The word of a row.
+    /// The word of a row.
     pub fn word(&self, row: usize) -> Option<Word>
         ensures { result ≡ word_if self.now.rows.now row }
     {

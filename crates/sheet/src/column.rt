@@ -5,7 +5,7 @@ ghost use Rattle.sheet.specs.Fields.{name_in};
 
 use sheet_text::{Column, Span};
 
-// The row that a column names, where it names one, and else 0: no column names row 0.
+/// The row that a column names, where it names one, and else 0: no column names row 0.
 pub fn target(column: Column) -> usize
     ensures { result ≡ target column }
 {
@@ -20,7 +20,7 @@ pub(crate) fn part(text: &[u8], span: Span) -> &[u8]
     rest.get(..span.len).unwrap_or(rest)
 }
 
-// The bytes of a column's name.
+/// The bytes of a column's name.
 pub fn name_of(text: &[u8], column: Column) -> &[u8]
     ensures { result.now ≡ name_in text.now column }
 {

@@ -10,7 +10,7 @@ use super::names::Names;
 use super::rule::{Family, Need, family_of, rule_of};
 use sheet_text::{Column, LIMIT, MAX_ROWS, Reason, Row, SheetRefusal, TypeWord, Word, is_name};
 
-// Rows over the text that holds their names. Apart from `CheckedSheet`, whose rows keep every rule.
+/// Rows over the text that holds their names. Apart from `CheckedSheet`, whose rows keep every rule.
 #[derive(Clone, Copy)]
 pub struct Draft<'t, 'r> {
     pub text: &'t [u8],
@@ -18,7 +18,7 @@ pub struct Draft<'t, 'r> {
 }
 
 impl<'t, 'r> Draft<'t, 'r> {
-    // The row that a column names, if there is one.
+    /// The row that a column names, if there is one.
     pub fn row_of(&self, column: Column) -> Option<Row>
         ensures { result ≡ field_in self.now.rows.now column }
     {
@@ -123,7 +123,7 @@ impl<'t, 'r> Draft<'t, 'r> {
         Ok(())
     }
 
-    // Checks every rule, and refuses at the first that is broken, with the line of its lowest row.
+    /// Checks every rule, and refuses at the first that is broken, with the line of its lowest row.
     pub fn check(&self) -> Result<(), SheetRefusal>
         ensures { result ≡ answer (verdict self.now.text.now self.now.rows.now) }
     {

@@ -7,7 +7,7 @@ use super::column::name_of;
 use super::draft::Draft;
 use sheet_text::Column;
 
-// The names of the fields that a column begins, at most so many.
+/// The names of the fields that a column begins, at most so many.
 #[derive(Clone, Copy)]
 pub struct Names<'t, 'r> {
     draft: Draft<'t, 'r>,
@@ -16,7 +16,7 @@ pub struct Names<'t, 'r> {
 }
 
 impl<'t, 'r> Names<'t, 'r> {
-    // The names of all fields that a column begins.
+    /// The names of all fields that a column begins.
     pub fn new(draft: Draft<'t, 'r>, column: Column) -> Names<'t, 'r>
         ensures draft { result.draft ≡ draft.entry }
         ensures column { result.column ≡ column }

@@ -9,8 +9,8 @@ ghost use Rattle.sheet.specs.Sheets.{read_of};
 use super::draft::Draft;
 use sheet_text::{Row, SheetRefusal, read_rows};
 
-// Reads the rows that the lines of the text state into the first places of the table, checks them, and counts them.
-// Where a line is refused the rows of the lines ahead are in the table, otherwise all rows. Later places stay as they were.
+/// Reads the rows that the lines of the text state into the first places of the table, checks them, and counts them.
+/// Where a line is refused the rows of the lines ahead are in the table, otherwise all rows. Later places stay as they were.
 pub fn read_sheet(text: &[u8], table: &mut [Row]) -> Result<usize, SheetRefusal>
     ensures told { as_told sheet_told result ≡ as_told sheet_told (read_of text.now (length table.old)).result }
     ensures result { result ≡ (read_of text.now (length table.old)).result }

@@ -14,7 +14,7 @@ pub enum Family {
     Step,
 }
 
-// What one column has to hold.
+/// What one column has to hold.
 #[derive(Clone, Copy)]
 pub enum Need {
     Blank,

@@ -9,8 +9,8 @@ use super::refusal::Reason;
 use super::row::Row;
 use super::token::read_token;
 
-// The text of a sheet, read up to a place. That reading keeps the text stands at each call: it speaks of two
-// values of the cursor, so it is no fact of its type.
+/// The text of a sheet, read up to a place. That reading keeps the text stands at each call: it speaks of two
+/// values of the cursor, so it is no fact of its type.
 #[derive(Drop)]
 pub struct Cursor<'t> {
     text: &'t [u8],
@@ -26,7 +26,7 @@ fn ends_part(b: u8) -> bool
 }
 
 impl<'t> Cursor<'t> {
-    // The text from a place on.
+    /// The text from a place on.
     pub fn new(text: &'t [u8], at: usize) -> Cursor<'t>
         requires { at ≤ length text.now }
         ensures text { result.text.now ≡ text.now }
@@ -35,7 +35,7 @@ impl<'t> Cursor<'t> {
         Cursor { text, at }
     }
 
-    // Whether all of the text is read.
+    /// Whether all of the text is read.
     pub fn is_done(&self) -> bool
         ensures { result ≡ (self.now.at == length self.now.text.now) }
     {
@@ -79,7 +79,7 @@ impl<'t> Cursor<'t> {
         })
     }
 
-    // The row that the line in front states as row k.
+    /// The row that the line in front states as row k.
     #[tactic(auto, unfolding(crate::specs::Rows::row_at))]
     pub fn row(&mut self, k: usize) -> Result<Row, Reason>
         ensures text { self.new.text.now ≡ self.old.text.now }

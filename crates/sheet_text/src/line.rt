@@ -8,7 +8,7 @@ use super::refusal::Reason;
 use super::row::{Column, Row, Span};
 use super::token::Token;
 
-// A value of a line, and where it stands.
+/// A value of a line, and where it stands.
 #[derive(Clone, Copy)]
 pub struct Part<'t> {
     pub token: Token<'t>,
@@ -16,7 +16,7 @@ pub struct Part<'t> {
 }
 
 impl Part<'_> {
-    // The value as a row keeps it.
+    /// The value as a row keeps it.
     pub fn column(self) -> Column
         ensures { result ≡ column_from self.entry.at (meaning self.entry.token) }
     {
@@ -31,7 +31,7 @@ impl Part<'_> {
     }
 }
 
-// The six values of a line, the last four as a row keeps them.
+/// The six values of a line, the last four as a row keeps them.
 #[derive(Clone, Copy)]
 pub struct Line<'t> {
     pub number: Token<'t>,
@@ -43,7 +43,7 @@ pub struct Line<'t> {
 }
 
 impl Line<'_> {
-    // The row that the line states as row k.
+    /// The row that the line states as row k.
     pub fn row(self, k: usize) -> Result<Row, Reason>
         ensures { (next : ℕ) → stated next result ≡ row_from k (Some (line_view next self.entry)) }
     {

@@ -4,7 +4,7 @@ ghost use Rattle.sheet_text.specs.Refusals.{at_row, sheet_told};
 
 use told::Told;
 
-// The reasons, each with its number.
+/// The reasons, each with its number.
 #[derive(Clone, Copy)]
 pub enum Reason {
     // The first line is wrong or has no line feed.
@@ -23,7 +23,7 @@ pub enum Reason {
     Depth = 7,
 }
 
-// A refusal with its line; lines count from 1.
+/// A refusal with its line; lines count from 1.
 #[derive(Clone, Copy)]
 pub struct SheetRefusal {
     pub reason: Reason,

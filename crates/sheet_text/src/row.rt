@@ -4,14 +4,14 @@ ghost use Rattle.sheet_text.specs.Columns.{number_in, span_in};
 
 use super::word::{TypeWord, Word};
 
-// A part of the sheet's text. No slice: a row is kept without the text, in memory that a caller lends.
+/// A part of the sheet's text. No slice: a row is kept without the text, in memory that a caller lends.
 #[derive(Clone, Copy)]
 pub struct Span {
     pub at: usize,
     pub len: usize,
 }
 
-// What a column holds; a name by its place in the text.
+/// What a column holds; a name by its place in the text.
 #[derive(Clone, Copy)]
 pub enum Column {
     Blank,
@@ -20,7 +20,7 @@ pub enum Column {
 }
 
 impl Column {
-    // The number that the column holds, if it holds one.
+    /// The number that the column holds, if it holds one.
     pub fn number(self) -> Option<u64>
         ensures { result ≡ number_in self }
     {
@@ -30,7 +30,7 @@ impl Column {
         }
     }
 
-    // Where the name stands that the column holds, if it holds one.
+    /// Where the name stands that the column holds, if it holds one.
     pub fn name(self) -> Option<Span>
         ensures { result ≡ span_in self }
     {
@@ -41,9 +41,9 @@ impl Column {
     }
 }
 
-// A row of a sheet: its word, and its columns as its line states them. Rows name other rows by number, as
-// the sheet does: the table of them is lent, and there is no heap for boxes. The four columns are no struct
-// of their own, though rules have four needs, too: every use would go through one more name.
+/// A row of a sheet: its word, and its columns as its line states them. Rows name other rows by number, as
+/// the sheet does: the table of them is lent, and there is no heap for boxes. The four columns are no struct
+/// of their own, though rules have four needs, too: every use would go through one more name.
 #[derive(Clone, Copy)]
 pub struct Row {
     pub word: Word,
@@ -54,7 +54,7 @@ pub struct Row {
 }
 
 impl Row {
-    // A row to fill a table with: void.
+    /// A row to fill a table with: void.
     pub const BLANK: Row = Row {
         word: Word::Type(TypeWord::Void),
         name: Column::Blank,

@@ -12,11 +12,11 @@ use super::row::Row;
 // The first line of every sheet.
 const HEADER: &[u8] = b"row,word,name,one,two,three\n";
 
-// The most rows that a sheet may have.
+/// The most rows that a sheet may have.
 pub const MAX_ROWS: usize = 256;
 
-// Reads the rows that the lines of the text state into the first places of the table, and counts them.
-// At a refusal the rows of the lines ahead are in the table. Later places stay as they were.
+/// Reads the rows that the lines of the text state into the first places of the table, and counts them.
+/// At a refusal the rows of the lines ahead are in the table. Later places stay as they were.
 pub fn read_rows(text: &[u8], table: &mut [Row]) -> Result<usize, SheetRefusal>
     ensures told { as_told sheet_told result ≡ as_told sheet_told (lines_of text.now (length table.old)).result }
     ensures result { result ≡ (lines_of text.now (length table.old)).result }

@@ -8,7 +8,7 @@ ghost use Rattle.sheet_text.specs.Values.{meaning, value_of, number_of, digits_a
 
 use super::word::{Word, read_word};
 
-// What a byte may be in a name.
+/// What a byte may be in a name.
 #[derive(Clone, Copy, PartialEq)]
 pub enum NameByte {
     Letter,
@@ -45,7 +45,7 @@ fn name_byte(b: u8) -> NameByte
     }
 }
 
-// A value; a name borrows its bytes from the sheet's text.
+/// A value; a name borrows its bytes from the sheet's text.
 #[derive(Clone, Copy)]
 pub enum Token<'a> {
     Name(&'a [u8]),
@@ -54,14 +54,14 @@ pub enum Token<'a> {
 }
 
 impl Token<'_> {
-    // Whether it is the number n.
+    /// Whether it is the number n.
     pub fn is_number(self, n: usize) -> bool
         ensures { result ≡ is_number n (meaning self.entry) }
     {
         matches!(self, Token::Number(m) if m == n as u64)
     }
 
-    // The word that it is, if it is one.
+    /// The word that it is, if it is one.
     pub fn word(self) -> Option<Word>
         ensures { result ≡ word_in (meaning self.entry) }
     {
@@ -72,7 +72,7 @@ impl Token<'_> {
     }
 }
 
-// Whether the bytes are a name: a letter, then letters, digits or `_`, at most 16 in all.
+/// Whether the bytes are a name: a letter, then letters, digits or `_`, at most 16 in all.
 #[tactic(auto, using(crate::proofs::Plain::name_is, crate::proofs::Plain::name_made))]
 pub fn is_name(bytes: &[u8]) -> bool
     ensures is { result ≡ is_name bytes.now }
@@ -87,7 +87,7 @@ pub fn is_name(bytes: &[u8]) -> bool
     }
 }
 
-// The largest number of a sheet.
+/// The largest number of a sheet.
 pub const LIMIT: u64 = 0x7fff_ffff_ffff_ffff;
 
 // The number that decimal digits write, if there are no other bytes and it is at most `LIMIT`. No `parse`:

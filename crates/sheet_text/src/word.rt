@@ -2,7 +2,7 @@
 ghost use Rattle.std.specs.Prelude.{◌≡◌, ◌≤◌};
 ghost use Rattle.sheet_text.specs.Table.{base_spelling, spelling, spelled, words, width_of};
 
-// The words of base types.
+/// The words of base types.
 #[derive(Clone, Copy)]
 pub enum Base {
     Bool,
@@ -18,7 +18,7 @@ pub enum Base {
     Double,
 }
 
-// The words of types.
+/// The words of types.
 #[derive(Clone, Copy)]
 pub enum TypeWord {
     Void,
@@ -28,7 +28,7 @@ pub enum TypeWord {
     Alt,
 }
 
-// The words of numbers.
+/// The words of numbers.
 #[derive(Clone, Copy)]
 pub enum NumberWord {
     Lit,
@@ -37,7 +37,7 @@ pub enum NumberWord {
     Mul,
 }
 
-// The words of truths.
+/// The words of truths.
 #[derive(Clone, Copy)]
 pub enum TruthWord {
     True,
@@ -50,14 +50,14 @@ pub enum TruthWord {
     Lt,
 }
 
-// The words of steps.
+/// The words of steps.
 #[derive(Clone, Copy)]
 pub enum StepWord {
     Dot,
     Idx,
 }
 
-// A word.
+/// A word.
 #[derive(Clone, Copy)]
 pub enum Word {
     Type(TypeWord),
@@ -69,7 +69,7 @@ pub enum Word {
 }
 
 impl Base {
-    // The text of the word in a sheet.
+    /// The text of the word in a sheet.
     pub fn text(self) -> &'static str
         ensures { result.now ≡ base_spelling self }
     {
@@ -88,7 +88,7 @@ impl Base {
         }
     }
 
-    // How many bytes a piece of it has.
+    /// How many bytes a piece of it has.
     pub fn width(self) -> u8
         ensures is { result ≡ width_of self }
         ensures few { result ≤ 8 }

@@ -3,7 +3,7 @@
 
 ghost use Rattle.worked.specs.Examples.{Examples};
 
-// Does nothing; that it is proved says that every example of the table holds.
+/// Does nothing; that it is proved says that every example of the table holds.
 pub fn worked_examples_hold()
     ensures { Examples }
 {}
