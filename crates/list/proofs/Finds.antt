@@ -1,9 +1,9 @@
 -- What finds the first entry in use that passes, and what was found.
-use Rattle.std.proofs.Common.{◌≡◌, ℕ, zero, suc, ◌+◌, ◌<◌, Bool, true, false, cond, ◌⊎◌, List, [], ◌∷◌, ◌++◌, length, get_or, drop, Some, None, Option, sym, refl, ap, ◌∙◌, inl, inr, ⊎_elim, arith}
+use Rattle.std.proofs.Common.{◌≡◌, ℕ, zero, suc, ◌+◌, ◌<◌, Bool, true, false, cond, ◌⊎◌, List, [], ◌∷◌, ◌++◌, length, get_or, drop, Some, None, Option, MatchOption, sym, refl, ap, ◌∙◌, inl, inr, ⊎_elim, arith}
 use Rattle.std.proofs.lemmas.List.{drop_more}
 use Rattle.std.proofs.lemmas.Bool.{cases_Bool, cond-true, cond-false}
 use Rattle.std.specs.List.{slice_get}
-use Rattle.list.specs.Contents.{first_of}
+use Rattle.list.specs.Contents.{first_of, Found, NonePasses}
 
 module _ {X : Type 0} (p : X → Bool) where
   -- the entries from i on, of which x was read as the first
@@ -35,25 +35,19 @@ module _ {X : Type 0} (p : X → Bool) where
   before_more y ys i f b zero h w e = let s : y ≡ w = cc in ap p (sym s) ∙ f
   before_more y ys i f b (suc j) h w e = b j (omega arith) w e
 
-  -- where the entry that was found stands: it passes, and no entry before it does
-  pub record Found (xs : List X) (x : X) : Type 0 where
-    pub place : ℕ
-    pub is : slice_get xs place ≡ Some x
-    pub passes : p x ≡ true
-    pub before : (j : ℕ) → j < place → (y : X) → slice_get xs j ≡ Some y → p y ≡ false
-
-  pub found_place : (xs : List X) (x : X) → first_of p xs ≡ Some x → Found xs x
+  -- where the entry that was found stands
+  pub found_place : (xs : List X) (x : X) → first_of p xs ≡ Some x → Found p xs x
   found_place [] x e = absurd (let z : ◌≡◌ {A = ℕ} 0 1 = cc in omega arith)
   found_place (y ∷ ys) x e =
       ⊎_elim
       (λ (h : (p y ≡ true) × (Some y ≡ Some x)). let s : y ≡ x = let q = h.1 in cc in
-      record { place = 0; is = h.1; passes = ap p (sym s) ∙ h.0; before = λ j l. absurd (omega arith) })
+      record { place = 0; is = h.1; passing = ap p (sym s) ∙ h.0; first = λ j l. absurd (omega arith) })
       (λ (h : (p y ≡ false) × (first_of p ys ≡ Some x)). let f = found_place ys x h.1 in
-      record { place = suc f.place; is = f.is; passes = f.passes; before = before_more y ys f.place h.0 f.before })
+      record { place = suc f.place; is = f.is; passing = f.passing; first = before_more y ys f.place h.0 f.first })
       (at_front y ys (Some x) e)
 
   -- where nothing was found, no entry passes
-  pub none_passes : (xs : List X) → first_of p xs ≡ None → (j : ℕ) (y : X) → slice_get xs j ≡ Some y → p y ≡ false
+  pub none_passes : (xs : List X) → first_of p xs ≡ None → NonePasses p xs
   none_passes [] e j y h = absurd (let z : ◌≡◌ {A = ℕ} 0 1 = cc in omega arith)
   none_passes (x ∷ xs) e zero y h =
       ⊎_elim (λ (t : (p x ≡ true) × (Some x ≡ None)). absurd (let q = t.1 in let z : ◌≡◌ {A = ℕ} 0 1 = cc in omega arith))
@@ -78,3 +72,8 @@ module _ {X : Type 0} (p : X → Bool) where
       ⊎_elim (λ (t : (p w ≡ true) × (Some w ≡ None)). absurd (let q = t.1 in let z : ◌≡◌ {A = ℕ} 0 1 = cc in omega arith))
       (λ (f : (p w ≡ false) × (first_of p ws ≡ None)). cond-false (p w) (Some w) (first_of p (ws ++ x ∷ [])) f.0 ∙ first_push_new ws x f.1)
       (at_front w ws None e)
+
+  -- both in one
+  pub searched : (xs : List X) (r : Option X) → r ≡ first_of p xs → MatchOption r (NonePasses p xs) (Found p xs)
+  searched xs None e = none_passes xs (sym e)
+  searched xs (Some x) e = found_place xs x (sym e)

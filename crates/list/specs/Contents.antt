@@ -1,5 +1,6 @@
 -- What a bounded list holds.
-use Rattle.std.specs.Prelude.{ℕ, Bool, cond, List, [], ◌∷◌, length, take, Some, None, Option}
+use Rattle.std.specs.List.{slice_get}
+use Rattle.std.specs.Prelude.{◌≡◌, ℕ, ◌<◌, Bool, true, false, cond, List, [], ◌∷◌, length, take, Some, None, Option}
 use Rattle.list.specs.declared.BoundedList.{BoundedList}
 
 module _ {T : Type 0} where
@@ -23,3 +24,14 @@ module _ {T : Type 0} where
   abbrev pub first_of : (T → Bool) → List T → Option T
   first_of passes [] = None
   first_of passes (x ∷ xs) = cond (passes x) (Some x) (first_of passes xs)
+
+  -- x stands among the entries and passes, and none before it does
+  pub record Found (passes : T → Bool) (xs : List T) (x : T) : Type 0 where
+    pub place : ℕ
+    pub is : slice_get xs place ≡ Some x
+    pub passing : passes x ≡ true
+    pub first : (j : ℕ) → j < place → (y : T) → slice_get xs j ≡ Some y → passes y ≡ false
+
+  -- no entry passes
+  abbrev pub NonePasses : (T → Bool) → List T → Type 0
+  NonePasses passes xs = (j : ℕ) (y : T) → slice_get xs j ≡ Some y → passes y ≡ false

@@ -1,8 +1,8 @@
 // What a caller can do with a list. What a call leaves as it was stands at each call: it speaks of two
 // values of the list, so it is no fact of its type.
-ghost use Rattle.std.specs.Prelude.{◌≡◌, ℕ, ◌-◌, ◌<◌, [], ◌∷◌, ◌++◌, length, take, if◌then◌else◌, MatchResult, nat_lt, slice_set};
+ghost use Rattle.std.specs.Prelude.{◌≡◌, ℕ, ◌-◌, ◌<◌, [], ◌∷◌, ◌++◌, length, take, if◌then◌else◌, MatchOption, MatchResult, nat_lt, slice_set};
 ghost use Rattle.std.specs.List.{slice_get};
-ghost use Rattle.list.specs.Contents.{backing, contents, first_of, room, used};
+ghost use Rattle.list.specs.Contents.{Found, NonePasses, backing, contents, first_of, room, used};
 
 use crate::places::{entry_at, find_in, in_use, kept, places, replace_at, write_at};
 use crate::{BoundedList, Full, Test};
@@ -44,8 +44,10 @@ impl<'a, T: Copy> BoundedList<'a, T> {
     }
 
     /// The first entry that passes a test.
+    #[tactic(auto, using(crate::proofs::Finds::searched))]
     pub fn find<P: Test<T>>(&mut self, test: &P) -> Option<T>
         ensures value { result ≡ first_of (P.Test.holds test.now) (contents self.old) }
+        ensures found { MatchOption result (NonePasses (P.Test.holds test.now) (contents self.old)) (Found (P.Test.holds test.now) (contents self.old)) }
         ensures same { self.new ≡ self.old }
     {
         let count = self.count;
@@ -75,6 +77,7 @@ impl<'a, T: Copy> BoundedList<'a, T> {
     pub fn pop(&mut self) -> Option<T>
         ensures value { result ≡ slice_get (contents self.old) (used self.old - 1) }
         ensures contents { contents self.new ≡ take (used self.old - 1) (contents self.old) }
+        ensures free { 0 < used self.old → used self.new < room self.new }
         ensures backing { backing self.new ≡ backing self.old }
         ensures lender { self.new.entries.ghost_name ≡ self.old.entries.ghost_name }
     {
@@ -87,6 +90,7 @@ impl<'a, T: Copy> BoundedList<'a, T> {
     /// Keeps the first `n` entries, or all if there are no more.
     pub fn truncate(&mut self, n: usize)
         ensures contents { contents self.new ≡ take n (contents self.old) }
+        ensures free { n < used self.old → used self.new < room self.new }
         ensures backing { backing self.new ≡ backing self.old }
         ensures lender { self.new.entries.ghost_name ≡ self.old.entries.ghost_name }
     {

@@ -6,6 +6,7 @@ ghost use Rattle.std.specs.Ordering.{on};
 ghost use Rattle.std.specs.Cmp.{on_per};
 ghost use Rattle.path.specs.Meaning.{step_of, path_of, same_path};
 ghost use Rattle.path.specs.Equal.{paths_per};
+ghost use Rattle.path.specs.Lawful.{LawfulPath};
 
 use super::{Element, Path, STEPS_MAX, Step};
 
@@ -49,10 +50,11 @@ impl Path {
         }
     }
 
-    /// How many steps the path has.
+    /// How many steps the path has. Every path is lawful.
     pub fn len(&self) -> usize
         ensures value { result ≡ length (path_of self.now) }
         ensures bound { result ≤ 8 }
+        ensures lawful { LawfulPath (path_of self.now) }
     {
         self.len as usize
     }

@@ -7,11 +7,11 @@ use Rattle.sheet.specs.Verdict.{verdict}
 use Rattle.sheet.specs.Depths.{entries}
 use Rattle.sheet.specs.Fields.{chain_names}
 use Rattle.meaning.specs.Stands.{number_at, steps_at, truth_at, type_at, fields_at}
-use Rattle.worked.specs.Layings.{SheetsAccepted, TwoPoints, LostCount, ListOfTwo, CutPoint, EmptyRecords, AboveLimit, CountInBothVersions, CountBehindArray, OwnCounts}
+use Rattle.worked.specs.Layings.{SheetsAccepted, TwoPoints, LostCount, ListOfTwo, CutPoint, EmptyRecords, VoidOpened, AboveLimit, CountInBothVersions, CountBehindArray, OwnCounts}
 
 pub sheets : SheetsAccepted
 unfolding capture_cells part_at row_at lines_from verdict entries chain_names number_at steps_at truth_at type_at fields_at
-sheets = record { points = refl; empty = refl; empties = refl; too_many_empties = refl; above = refl; above_or = refl; two_versions = refl; count_behind = refl; own_counts = refl }
+sheets = record { points = refl; empty = refl; empties = refl; too_many_empties = refl; nothing = refl; then_nothing = refl; above = refl; above_or = refl; two_versions = refl; count_behind = refl; own_counts = refl }
 
 pub two_points : TwoPoints
 unfolding capture_cells part_at row_at lines_from verdict entries chain_names number_at steps_at truth_at type_at fields_at
@@ -32,6 +32,10 @@ cut_point = (refl, refl)
 pub empty_records : EmptyRecords
 unfolding capture_cells part_at row_at lines_from verdict entries chain_names number_at steps_at truth_at type_at fields_at
 empty_records = (refl, refl, refl)
+
+pub void_opened : VoidOpened
+unfolding capture_cells part_at row_at lines_from verdict entries chain_names number_at steps_at truth_at type_at fields_at
+void_opened = (refl, refl)
 
 pub above_limit : AboveLimit
 unfolding capture_cells part_at row_at lines_from verdict entries chain_names number_at steps_at truth_at type_at fields_at

@@ -8,7 +8,7 @@ use Rattle.cells.specs.Cells.{read_of}
 use Rattle.layers.specs.Layers.{swapped, windowed}
 use Rattle.cells.specs.Captured.{opened}
 use Rattle.cells.specs.Refusals.{bad_pair, lost_cell}
-use Rattle.worked.specs.Layings.{SheetsAccepted, TwoPoints, LostCount, ListOfTwo, CutPoint, EmptyRecords, AboveLimit, CountInBothVersions, CountBehindArray, OwnCounts}
+use Rattle.worked.specs.Layings.{SheetsAccepted, TwoPoints, LostCount, ListOfTwo, CutPoint, EmptyRecords, VoidOpened, AboveLimit, CountInBothVersions, CountBehindArray, OwnCounts}
 
 abbrev mark : ℕ → ℕ → Mark
 mark place layers = record { place = place; layers = layers }
@@ -45,6 +45,7 @@ pub record Examples : Type 0 where
   pub list_of_two : ListOfTwo
   pub cut_point : CutPoint
   pub empty_records : EmptyRecords
+  pub void_opened : VoidOpened
   pub above_limit : AboveLimit
   pub count_in_both_versions : CountInBothVersions
   pub count_behind_array : CountBehindArray

@@ -3,7 +3,7 @@ use Rattle.std.specs.Prelude.{◌≡◌, [], ◌∷◌, Some, None, codes}
 use Rattle.told.specs.Answers.{given, refused}
 use Rattle.path.specs.Meaning.{field, element}
 use Rattle.meaning.specs.Matcher.{accepted}
-use Rattle.worked.specs.Sheets.{Accepted, laying, tells, refusal, piece, points, empty, empties, too_many_empties, above, above_or, two_versions, count_behind, own_counts}
+use Rattle.worked.specs.Sheets.{Accepted, laying, tells, refusal, piece, points, empty, empties, too_many_empties, nothing, then_nothing, above, above_or, two_versions, count_behind, own_counts}
 
 -- the sheets are accepted
 pub record SheetsAccepted : Type 0 where
@@ -11,6 +11,8 @@ pub record SheetsAccepted : Type 0 where
   pub empty : Accepted empty 1
   pub empties : Accepted empties 3
   pub too_many_empties : Accepted too_many_empties 3
+  pub nothing : Accepted nothing 1
+  pub then_nothing : Accepted then_nothing 7
   pub above : Accepted above 5
   pub above_or : Accepted above_or 8
   pub two_versions : Accepted two_versions 21
@@ -48,6 +50,10 @@ EmptyRecords =
     (tells empty "" 0 ≡ given (0, 0))
     × (tells empties "" 0 ≡ given (0, 0))
     × (tells too_many_empties "" 0 ≡ refused (refusal 15 0 0 0))
+
+-- a row `void` is opened: at once, and behind a byte
+abbrev pub VoidOpened : Type 0
+VoidOpened = (tells nothing "" 0 ≡ refused (refusal 13 0 0 0)) × (tells then_nothing "02" 512 ≡ refused (refusal 13 5 1 1))
 
 -- 2^63 - 1 plus 1 has no value, also under `or` after `true`
 abbrev pub AboveLimit : Type 0

@@ -68,6 +68,21 @@ empties = "0,arr,-,1,2,-" ∷ "1,rec,-,-,-,-" ∷ "2,lit,-,65535,-,-" ∷ []
 abbrev pub too_many_empties : List String
 too_many_empties = "0,arr,-,1,2,-" ∷ "1,rec,-,-,-,-" ∷ "2,lit,-,65536,-,-" ∷ []
 
+-- nothing that can be laid; and a byte, and then that, since true chooses it
+abbrev pub nothing : List String
+nothing = "0,void,-,-,-,-" ∷ []
+
+abbrev pub then_nothing : List String
+then_nothing =
+    "0,rec,-,1,-,-"
+    ∷ "1,fld,n,6,2,-"
+    ∷ "2,fld,end,3,-,-"
+    ∷ "3,alt,-,4,5,6"
+    ∷ "4,true,-,-,-,-"
+    ∷ "5,void,-,-,-,-"
+    ∷ "6,u8,-,-,-,-"
+    ∷ []
+
 -- as many empty records as 2^63 - 1 plus 1
 abbrev pub above : List String
 above = "0,arr,-,1,2,-" ∷ "1,rec,-,-,-,-" ∷ "2,add,-,3,4,-" ∷ "3,lit,-,9223372036854775807,-,-" ∷ "4,lit,-,1,-,-" ∷ []

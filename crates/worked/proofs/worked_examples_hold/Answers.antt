@@ -5,7 +5,7 @@ use Rattle.cells.specs.Cells.{read_of}
 use Rattle.layers.specs.Layers.{swapped, windowed}
 use Rattle.cells.specs.Captured.{capture_cells}
 use Rattle.worked.specs.Examples.{SwapOfThree, WindowOnFour, CaptureOfFour, LostUnderWindow, CutPair}
-use Rattle.worked.proofs.Layings.{sheets, two_points, lost_count, list_of_two, cut_point, empty_records, above_limit, count_in_both_versions, count_behind_array, own_counts}
+use Rattle.worked.proofs.Layings.{sheets, two_points, lost_count, list_of_two, cut_point, empty_records, void_opened, above_limit, count_in_both_versions, count_behind_array, own_counts}
 use Rattle.worked.proofs.worked_examples_hold.Goals as goal
 
 swaps : SwapOfThree
@@ -44,6 +44,7 @@ returns c = record {
   list_of_two = list_of_two;
   cut_point = cut_point;
   empty_records = empty_records;
+  void_opened = void_opened;
   above_limit = above_limit;
   count_in_both_versions = count_in_both_versions;
   count_behind_array = count_behind_array;
