@@ -12,7 +12,7 @@ pub struct Mark {
     pub layers: u8,
 }
 
-/// Kept as an enum of its own, and no Result: a lost cell is part of a message, and no failure.
+/// One cell of a message. An enum of its own, and no Result: a lost cell is part of a message, and no failure.
 #[derive(Clone, Copy)]
 pub enum Cell {
     Byte(u8),

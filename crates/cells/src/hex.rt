@@ -2,7 +2,7 @@
 ghost use Rattle.std.specs.Prelude.{◌≡◌};
 ghost use Rattle.cells.specs.Hex.{pair_in};
 
-/// Kept as an enum of its own, and no Option: `--` says something, and `None` is no pair at all.
+/// What a pair of characters says. An enum of its own, and no Option: `--` says something, and `None` is no pair.
 #[derive(Clone, Copy)]
 pub enum Pair {
     // two hexadecimal digits, and their byte

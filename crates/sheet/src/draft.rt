@@ -19,7 +19,7 @@ pub struct Draft<'t, 'r> {
 
 impl<'t, 'r> Draft<'t, 'r> {
     /// The row that a column names, if there is one.
-    pub fn row_of(&self, column: Column) -> Option<Row>
+    pub(crate) fn row_of(&self, column: Column) -> Option<Row>
         ensures { result ≡ field_in self.now.rows.now column }
     {
         let k = column.number()? as usize;
@@ -124,7 +124,7 @@ impl<'t, 'r> Draft<'t, 'r> {
     }
 
     /// Checks every rule, and refuses at the first that is broken, with the line of its lowest row.
-    pub fn check(&self) -> Result<(), SheetRefusal>
+    pub(crate) fn check(&self) -> Result<(), SheetRefusal>
         ensures { result ≡ answer (verdict self.now.text.now self.now.rows.now) }
     {
         if self.rows.is_empty() {

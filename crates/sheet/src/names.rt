@@ -17,7 +17,7 @@ pub struct Names<'t, 'r> {
 
 impl<'t, 'r> Names<'t, 'r> {
     /// The names of all fields that a column begins.
-    pub fn new(draft: Draft<'t, 'r>, column: Column) -> Names<'t, 'r>
+    pub(crate) fn new(draft: Draft<'t, 'r>, column: Column) -> Names<'t, 'r>
         ensures draft { result.draft ≡ draft.entry }
         ensures column { result.column ≡ column }
         ensures left { result.left ≡ length draft.entry.rows.now }

@@ -27,7 +27,7 @@ fn ends_part(b: u8) -> bool
 
 impl<'t> Cursor<'t> {
     /// The text from a place on.
-    pub fn new(text: &'t [u8], at: usize) -> Cursor<'t>
+    pub(crate) fn new(text: &'t [u8], at: usize) -> Cursor<'t>
         requires { at ≤ length text.now }
         ensures text { result.text.now ≡ text.now }
         ensures at { result.at ≡ at }
@@ -36,7 +36,7 @@ impl<'t> Cursor<'t> {
     }
 
     /// Whether all of the text is read.
-    pub fn is_done(&self) -> bool
+    pub(crate) fn is_done(&self) -> bool
         ensures { result ≡ (self.now.at == length self.now.text.now) }
     {
         self.at == self.text.len()
@@ -81,7 +81,7 @@ impl<'t> Cursor<'t> {
 
     /// The row that the line in front states as row k.
     #[tactic(auto, unfolding(crate::specs::Rows::row_at))]
-    pub fn row(&mut self, k: usize) -> Result<Row, Reason>
+    pub(crate) fn row(&mut self, k: usize) -> Result<Row, Reason>
         ensures text { self.new.text.now ≡ self.old.text.now }
         ensures is { stated self.new.at result ≡ row_at self.old.text.now self.old.at k }
     {

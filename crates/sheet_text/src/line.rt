@@ -17,7 +17,7 @@ pub struct Part<'t> {
 
 impl Part<'_> {
     /// The value as a row keeps it.
-    pub fn column(self) -> Column
+    pub(crate) fn column(self) -> Column
         ensures { result ≡ column_from self.entry.at (meaning self.entry.token) }
     {
         match self.token {
@@ -44,7 +44,7 @@ pub struct Line<'t> {
 
 impl Line<'_> {
     /// The row that the line states as row k.
-    pub fn row(self, k: usize) -> Result<Row, Reason>
+    pub(crate) fn row(self, k: usize) -> Result<Row, Reason>
         ensures { (next : ℕ) → stated next result ≡ row_from k (Some (line_view next self.entry)) }
     {
         if !self.number.is_number(k) {

@@ -55,14 +55,14 @@ pub enum Token<'a> {
 
 impl Token<'_> {
     /// Whether it is the number n.
-    pub fn is_number(self, n: usize) -> bool
+    pub(crate) fn is_number(self, n: usize) -> bool
         ensures { result ≡ is_number n (meaning self.entry) }
     {
         matches!(self, Token::Number(m) if m == n as u64)
     }
 
     /// The word that it is, if it is one.
-    pub fn word(self) -> Option<Word>
+    pub(crate) fn word(self) -> Option<Word>
         ensures { result ≡ word_in (meaning self.entry) }
     {
         match self {
