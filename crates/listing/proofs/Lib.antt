@@ -1,4 +1,3 @@
-pub mod Pieces
 pub mod Shares
 pub mod Wholes
 pub mod Lengths

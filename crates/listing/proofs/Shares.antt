@@ -7,7 +7,7 @@ use Rattle.cells.specs.Cells.{read_at, answered, cell_read}
 use Rattle.cells.specs.declared.cell.Cell.{Cell}
 use Rattle.cells.specs.declared.cell.Cell.TheVariants.{Byte, Lost}
 use Rattle.listing.specs.Parts.{cell_text, answer_text}
-use Rattle.listing.proofs.Pieces.{part_more}
+use Rattle.line.proofs.Pieces.{part_more}
 
 abbrev blank : Cell
 blank = Byte 0

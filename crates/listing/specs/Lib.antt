@@ -1,5 +1,3 @@
 pub mod Parts
 pub mod Rows
 pub mod Lines
-pub mod Sinks
-pub mod Laws

@@ -1,12 +1,12 @@
 // The two things that a listing can tell.
-ghost use Rattle.listing.specs.Lines.{laid, fault, lines_of};
+ghost use Rattle.listing.specs.Lines.{laid, fault, lines_of, whole_text};
 ghost use Rattle.listing.specs.Rows.{rest_text};
 
-use crate::lines::Lines;
 use crate::part::Part;
 use crate::rows::{put_tail, put_told};
-use crate::sink::Sink;
 use cells::source::Source;
+use line::Text;
+use line::sink::Sink;
 use told::Told;
 
 // A message, and how many of its cells are covered.
@@ -19,7 +19,7 @@ pub(crate) struct Laying<'s, S> {
 impl<'s, S: Source> Laying<'s, S> {
     // Writes what the cells have behind the covered ones.
     fn put_rest<W: Sink>(&self, out: &mut W)
-        ensures { W.took out.old (rest_text (S.Source.cells self.now.source.now) self.now.covered) out.new }
+        ensures { W.Sink.took out.old (rest_text (S.Source.cells self.now.source.now) self.now.covered) out.new }
     {
         let rest = Part {
             source: self.source,
@@ -31,8 +31,8 @@ impl<'s, S: Source> Laying<'s, S> {
     }
 }
 
-impl<'s, S: Source> Lines for Laying<'s, S> {
-    ghost lines = { λ l. lines_of (laid (S.Source.cells l.source.now) l.covered) };
+impl<'s, S: Source> Text for Laying<'s, S> {
+    ghost text = { λ l. whole_text (lines_of (laid (S.Source.cells l.source.now) l.covered)) };
 
     fn write<W: Sink>(&self, out: &mut W) {
         out.text(b"path,word,place,width,bytes\n");
@@ -41,12 +41,18 @@ impl<'s, S: Source> Lines for Laying<'s, S> {
     }
 }
 
-impl Lines for Told {
-    ghost lines = { λ t. lines_of (fault t) };
+// What is told of a refusal.
+#[derive(Clone, Copy)]
+pub(crate) struct Refused {
+    pub told: Told,
+}
+
+impl Text for Refused {
+    ghost text = { λ r. whole_text (lines_of (fault r.told)) };
 
     fn write<W: Sink>(&self, out: &mut W) {
         out.text(b"fault,line,row,place,pieces,lost,layers\n");
-        put_told(out, *self);
+        put_told(out, self.told);
         out.text(b"\n");
     }
 }

@@ -11,19 +11,16 @@ ghost use Rattle.input.specs.Parts.{sheet_text};
 ghost use Rattle.listing.specs.Lines.{lines_of, of_message, whole_text, listing};
 
 use cells::capture::Capture;
-use found::Laying;
+use found::{Laying, Refused};
 use input::Input;
 use line::{Full, Line};
-use lines::write_all;
 use sheet::read_sheet;
 use sheet_text::{MAX_ROWS, Row};
 use told::Told;
 
 mod found;
-mod lines;
 mod part;
 mod rows;
-mod sink;
 
 /// No listing is longer.
 pub const LISTING_MAX: usize = 262_144;
@@ -38,9 +35,11 @@ fn write_message(capture: &[u8], out: &mut Line<'_>) -> Result<(), Full>
                 source: &source,
                 covered: 0,
             };
-            write_all(&laying, out)
+            out.push(&laying)
         }
-        Err(fault) => write_all(&Told::from(fault), out),
+        Err(fault) => out.push(&Refused {
+            told: Told::from(fault),
+        }),
     }
 }
 
@@ -55,7 +54,9 @@ pub fn write_listing(bytes: &[u8], table: &mut [Row], out: &mut Line<'_>) -> Res
     let input = Input::of(bytes);
     match read_sheet(input.sheet, table) {
         Ok(_) => write_message(input.capture, out),
-        Err(refusal) => write_all(&Told::from(refusal), out),
+        Err(refusal) => out.push(&Refused {
+            told: Told::from(refusal),
+        }),
     }
 }
 

@@ -3,9 +3,9 @@ ghost use Rattle.std.specs.Prelude.{◌≡◌, ℕ, List};
 ghost use Rattle.cells.specs.declared.cell.Cell.{Cell};
 ghost use Rattle.listing.specs.Parts.{answer_text, bytes_text, part_of};
 
-use crate::sink::Sink;
 use cells::cell::ReadFault;
 use cells::source::Source;
+use line::sink::Sink;
 
 // So many cells of a source from a place on, or as many as there are.
 #[derive(Drop)]
@@ -18,7 +18,7 @@ pub(crate) struct Part<'s, S> {
 impl<'s, S: Source> Part<'s, S> {
     // Writes all the cells, or one dash if there is none.
     pub(crate) fn put_bytes<W: Sink>(&self, out: &mut W)
-        ensures { W.took out.old (bytes_text (part_of (S.Source.cells self.now.source.now) self.now.place self.now.width)) out.new }
+        ensures { W.Sink.took out.old (bytes_text (part_of (S.Source.cells self.now.source.now) self.now.place self.now.width)) out.new }
     {
         let end = self.place.saturating_add(self.width).min(self.source.len());
         if end <= self.place {
@@ -34,7 +34,7 @@ impl<'s, S: Source> Part<'s, S> {
 
 // Writes one cell, by what a read of it answers.
 fn put_cell<W: Sink>(out: &mut W, answer: Result<u8, ReadFault>)
-    ensures { W.took out.old (answer_text answer) out.new }
+    ensures { W.Sink.took out.old (answer_text answer) out.new }
 {
     match answer {
         Ok(byte) => out.hex(byte),

@@ -4,13 +4,13 @@ ghost use Rattle.cells.specs.declared.cell.Cell.{Cell};
 ghost use Rattle.listing.specs.Rows.{behind_comma, tail_text, value_text, told_text};
 
 use crate::part::Part;
-use crate::sink::Sink;
 use cells::source::Source;
+use line::sink::Sink;
 use told::Told;
 
 // Writes a value behind a comma, or a dash for one that is lacking.
 fn put_value<W: Sink>(out: &mut W, value: Option<u64>)
-    ensures { W.took out.old (behind_comma (value_text value)) out.new }
+    ensures { W.Sink.took out.old (behind_comma (value_text value)) out.new }
 {
     out.text(b",");
     match value {
@@ -21,7 +21,7 @@ fn put_value<W: Sink>(out: &mut W, value: Option<u64>)
 
 // Writes what follows the first value: word, place, width and bytes.
 pub(crate) fn put_tail<W: Sink, S: Source>(out: &mut W, word: &[u8], part: &Part<'_, S>)
-    ensures { W.took out.old (tail_text (S.Source.cells part.now.source.now) word.now part.now.place part.now.width) out.new }
+    ensures { W.Sink.took out.old (tail_text (S.Source.cells part.now.source.now) word.now part.now.place part.now.width) out.new }
 {
     out.text(b",");
     out.text(word);
@@ -32,7 +32,7 @@ pub(crate) fn put_tail<W: Sink, S: Source>(out: &mut W, word: &[u8], part: &Part
 }
 
 pub(crate) fn put_told<W: Sink>(out: &mut W, told: Told)
-    ensures { W.took out.old (told_text told) out.new }
+    ensures { W.Sink.took out.old (told_text told) out.new }
 {
     out.number(u64::from(told.number));
     for value in [

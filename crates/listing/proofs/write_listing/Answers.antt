@@ -18,7 +18,7 @@ returns-in-Ok-clause-fits c =
 pub returns-in-Err-clause-value : goal.returns-in-Err-clause-value
 returns-in-Err-clause-value c =
     let same = whole_is (length c.args.table.now) c.args.bytes.now _ _ c.of-input.ensures.sheet c.of-input.ensures.capture _ c.in-Err.ensures.result in
-    subst (λ t. Appended c.args.out.now t c.write_all.result c.write_all.new.line) (ap (λ t. whole_text (lines_of (fault t))) c.from.ensures ∙ same) c.write_all.ensures.value
+    subst (λ t. Appended c.args.out.now t c.push.result c.push.new.self) (ap (λ t. whole_text (lines_of (fault t))) c.from.ensures ∙ same) c.push.ensures.value
 
 pub returns-in-Err-clause-fits : goal.returns-in-Err-clause-fits
 returns-in-Err-clause-fits c =

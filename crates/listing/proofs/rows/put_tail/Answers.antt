@@ -1,4 +1,4 @@
-use Rattle.listing.proofs.Pieces.{then}
+use Rattle.line.proofs.Pieces.{then}
 use Rattle.listing.proofs.rows.put_tail.Goals as goal
 
 pub returns : goal.returns

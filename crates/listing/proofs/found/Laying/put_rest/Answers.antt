@@ -1,6 +1,6 @@
 use Rattle.std.proofs.Common.{◌-◌, ◌++◌, codes, ap, ◌∙◌}
 use Rattle.listing.specs.Rows.{tail_text}
-use Rattle.listing.proofs.Pieces.{then_is}
+use Rattle.line.proofs.Pieces.{then_is}
 use Rattle.listing.proofs.found.Laying.put_rest.Goals as goal
 
 pub returns : goal.returns

@@ -1,7 +1,7 @@
 use Rattle.std.proofs.Common.{◌-◌, ◌++◌, take, drop, ap, ◌∙◌, arith}
 use Rattle.std.specs.List.{flat_map}
 use Rattle.listing.specs.Parts.{cell_text, answer_text}
-use Rattle.listing.proofs.Pieces.{then_is}
+use Rattle.line.proofs.Pieces.{then_is}
 use Rattle.listing.proofs.Shares.{cell_more}
 use Rattle.listing.proofs.part.Part.put_bytes.Goals as goal
 

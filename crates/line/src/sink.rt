@@ -1,25 +1,27 @@
-// Places that text goes to, piece after piece.
+// Places that text goes to, one text after another.
 ghost use Rattle.std.specs.Prelude.{ℕ, List, decimal};
 ghost use Rattle.line.specs.Digits.{hex_text};
 ghost use Rattle.line.specs.Fills.{Fills};
-ghost use Rattle.listing.specs.Sinks.{Joins, Counted};
-ghost use Rattle.listing.specs.Laws.{fills_joins, counted_joins};
+ghost use Rattle.line.specs.Laws.{fills_joins, counted_joins};
+ghost use Rattle.line.specs.Sinks.{Joins, Counted};
 
-use line::{Line, count_digits};
+use crate::Line;
+use crate::digits::count_digits;
 
-// `fmt::Write` does not serve: it says nothing of a place that is full, and a full line stays as it was.
-pub(crate) trait Sink {
+/// A place that text goes to. `fmt::Write` does not serve: it says nothing of a place that is full, and a
+/// full line stays as it was.
+pub trait Sink {
     // what a place becomes by a text
     ghost took: { Self → List ℕ → Self → Type 0 };
 
     fn text(&mut self, bytes: &[u8])
         ensures { took self.old bytes.now self.new };
 
-    // Takes `n` in decimal.
+    /// Takes `n` in decimal.
     fn number(&mut self, n: u64)
         ensures { took self.old (decimal n) self.new };
 
-    // Takes two hexadecimal digits.
+    /// Takes two hexadecimal digits.
     fn hex(&mut self, byte: u8)
         ensures { took self.old (hex_text byte) self.new };
 
@@ -46,9 +48,9 @@ impl Sink for Line<'_> {
     }
 }
 
-// A count of the bytes, and no place for them.
+/// A count of the bytes, and no place for them. It may stop at the largest number.
 #[derive(Clone, Copy)]
-pub(crate) struct Size {
+pub struct Size {
     pub bytes: usize,
 }
 

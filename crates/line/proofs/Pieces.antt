@@ -2,7 +2,7 @@
 use Rattle.std.proofs.Common.{◌≡◌, ℕ, ◌+◌, ◌<◌, List, [], ◌++◌, length, get_or, take, sym, ap, ◌∙◌, subst}
 use Rattle.std.specs.List.{flat_map}
 use Rattle.std.proofs.lemmas.List.{flat_map_more, take_more}
-use Rattle.listing.specs.Sinks.{Joins}
+use Rattle.line.specs.Sinks.{Joins}
 
 module _ {S : Type 0} {took : S → List ℕ → S → Type 0} (j : Joins took) where
   pub then : {s t u : S} {a b : List ℕ} → took s a t → took t b u → took s (a ++ b) u
