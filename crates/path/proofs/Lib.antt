@@ -1,1 +1,5 @@
 pub mod Laws
+pub mod Prints
+pub mod Parses
+pub mod Spelling
+pub mod Reached

@@ -1,3 +1,4 @@
 pub mod Meaning
 pub mod Equal
 pub mod Lawful
+pub mod Printed

@@ -5,13 +5,19 @@ ghost use Rattle.std.specs.Prelude.{◌≡◌, ◌≤◌, true, length, take};
 ghost use Rattle.sheet_text.specs.Chars.{is_name};
 
 mod names;
+mod parse;
 mod paths;
 mod pieces;
+mod print;
+#[cfg(test)]
+mod tests;
 
 /// How many steps a path can have.
 pub const STEPS_MAX: usize = 8;
 /// The highest number that an element can have.
 pub const INDEX_MAX: u64 = 65534;
+/// How many bytes of memory a piece takes.
+pub const PIECE_SIZE: usize = size_of::<Piece>();
 
 /// The name of a field: the first `len` of the bytes. Names and paths stand whole in pieces, which are
 /// copied into lists that callers lend; so they have fixed memory, and no heap text.

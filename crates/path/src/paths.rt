@@ -60,7 +60,7 @@ impl Path {
     }
 
     // The steps from the root down.
-    fn in_use(&self) -> &[Step]
+    pub(crate) fn in_use(&self) -> &[Step]
         ensures { result.now ≡ take self.now.len self.now.steps }
     {
         &self.steps[..self.len as usize]

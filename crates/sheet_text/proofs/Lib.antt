@@ -8,3 +8,4 @@ pub mod Written
 pub mod Spelled
 pub mod Stated
 pub mod LineFaults
+pub mod Decimals

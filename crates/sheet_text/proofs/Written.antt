@@ -18,12 +18,12 @@ passed : {A : Type 0} (t : Bool) (o : Option A) (x : A) → cond t None o ≡ So
 passed false o x e = (refl, e)
 passed true o x e = let z : ◌≡◌ {A = ℕ} 0 1 = cc in absurd (omega arith)
 
-digits_are : (bs : List ℕ) → all_digits bs ≡ true → (i : ℕ) → i < length bs → Digit (get_or bs i 0)
+pub digits_are : (bs : List ℕ) → all_digits bs ≡ true → (i : ℕ) → i < length bs → Digit (get_or bs i 0)
 digits_are [] e i h = absurd (omega arith)
 digits_are (b ∷ bs) e zero h = digit_is b (and_parts (is_digit b) (all_digits bs) e).0
 digits_are (b ∷ bs) e (suc i) h = digits_are bs (and_parts (is_digit b) (all_digits bs) e).1 i (omega arith)
 
-digits_from : (bs : List ℕ) → ((i : ℕ) → i < length bs → Digit (get_or bs i 0)) → all_digits bs ≡ true
+pub digits_from : (bs : List ℕ) → ((i : ℕ) → i < length bs → Digit (get_or bs i 0)) → all_digits bs ≡ true
 digits_from [] h = refl
 digits_from (b ∷ bs) h = and_from _ _ (digit_from b (h 0 (omega arith))) (digits_from bs (λ i l. h (suc i) (omega arith)))
 
@@ -37,7 +37,7 @@ none_leads [] h = refl
 none_leads (b ∷ []) h = refl
 none_leads (b ∷ c ∷ bs) h = ne_eqb b 48 (h (omega arith))
 
-number_is : (bs : List ℕ) (n : ℕ) → number_of bs ≡ Some n → Decimal bs n
+pub number_is : (bs : List ℕ) (n : ℕ) → number_of bs ≡ Some n → Decimal bs n
 number_is [] n e = let z : ◌≡◌ {A = ℕ} 0 1 = cc in absurd (omega arith)
 number_is (b ∷ bs) n e =
     let p = passed (leads_with_zero (b ∷ bs)) (digits_after 0 (b ∷ bs)) n e in
@@ -47,7 +47,7 @@ number_is (b ∷ bs) n e =
     let less : decimal_after 0 (b ∷ bs) < 2 ^ 63 = ltb-true _ _ r.0 in
     record { some = omega arith; digits = digits_are (b ∷ bs) q.0; leading = zero_leads (b ∷ bs) p.0; value = same; small = omega arith }
 
-number_from : (bs : List ℕ) (n : ℕ) → Decimal bs n → number_of bs ≡ Some n
+pub number_from : (bs : List ℕ) (n : ℕ) → Decimal bs n → number_of bs ≡ Some n
 number_from [] n d = let z = d.some in absurd (omega arith)
 number_from (b ∷ bs) n d =
     let v = d.value in

@@ -12,5 +12,5 @@ mod word;
 pub use refusal::{Reason, SheetRefusal};
 pub use row::{Column, Row, Span};
 pub use rows::{MAX_ROWS, read_rows};
-pub use token::{LIMIT, is_name};
+pub use token::{LIMIT, is_name, read_number};
 pub use word::{Base, NumberWord, StepWord, TruthWord, TypeWord, Word};

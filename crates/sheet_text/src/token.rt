@@ -1,5 +1,5 @@
 // Values of a format sheet: a name, a whole number or a blank.
-ghost use Rattle.std.specs.Prelude.{◌≡◌, true};
+ghost use Rattle.std.specs.Prelude.{◌≡◌, ℕ, ◌^◌, ◌<◌, true, decimal, MatchOption};
 ghost use Rattle.std.specs.Option.{option_map};
 ghost use Rattle.sheet_text.specs.Chars.{class_of, leads, follows, is_name, digit_of};
 ghost use Rattle.sheet_text.specs.Plain.{ProperName};
@@ -112,9 +112,11 @@ fn digit_of(b: u8) -> Option<u64>
     char::from(b).to_digit(10).map(u64::from)
 }
 
-// The decimal number that the bytes write, without leading zeros.
-fn read_number(bytes: &[u8]) -> Option<u64>
-    ensures { result ≡ number_of bytes.now }
+/// The decimal number that the bytes write, without leading zeros: they are what the number is in print.
+#[tactic(auto, using(crate::proofs::Decimals::read))]
+pub fn read_number(bytes: &[u8]) -> Option<u64>
+    ensures is { result ≡ number_of bytes.now }
+    ensures printed { MatchOption result ((n : ℕ) → n < 2 ^ 63 → decimal n ≡ bytes.now → ⊥) (λ n. (n < 2 ^ 63) × (decimal n ≡ bytes.now)) }
 {
     match bytes {
         [] | [b'0', _, ..] => None,
