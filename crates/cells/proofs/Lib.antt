@@ -5,3 +5,4 @@ pub mod Digits
 pub mod Captures
 pub mod Faults
 pub mod Tells
+pub mod Changes

@@ -1,4 +1,4 @@
--- The messages of the bottoms keep the law of a message.
+-- The messages of the bottoms, and changed cells, keep the law of a message.
 use Rattle.std.specs.Prelude.{◌≡◌, ℕ, zero, suc, ◌+◌, ◌*◌, ◌/◌, ◌≤◌, min, List, [], ◌∷◌, map, length, take, drop, Some, None, Option, refl}
 use Rattle.std.specs.List.{flat_map}
 use Rattle.std.proofs.Common.{sym, ap, ◌∙◌, subst, arith, length-take, length-append}
@@ -7,6 +7,7 @@ use Rattle.cells.specs.Lent.{unit_cells, UnitLaws}
 use Rattle.std.proofs.Math.Nat.{suc-mul, mul-le-mul_right, div-mul-le_self}
 use Rattle.std.proofs.lemmas.List.{length-map}
 use Rattle.cells.specs.declared.cell.Cell.TheVariants.{Byte}
+use Rattle.cells.specs.Changed.{changed}
 use Rattle.cells.specs.Captured.{cell_of, pair_cells, capture_cells}
 use Rattle.cells.specs.Hex.{pair_of}
 use Rattle.cells.specs.declared.hex.Pair.{Pair}
@@ -115,3 +116,19 @@ capture_length t = length-take 65535 (pair_cells 0 t) ∙ ap (min 65535) (length
 pub capture_lawful : (t : List ℕ) → Lawful (capture_cells t)
 unfolding capture_cells
 capture_lawful t = record { bounded = omega (arith, capture_length t); marked = marks_pairs 65535 0 t (omega arith) }
+
+-- changed cells
+pub changed_length : (cs : List Cell) (k : ℕ) (bs : List ℕ) → length (changed cs k bs) ≡ length cs
+changed_length [] k bs = refl
+changed_length (c ∷ cs) zero [] = refl
+changed_length (c ∷ cs) zero (b ∷ bs) = ap suc (changed_length cs zero bs)
+changed_length (c ∷ cs) (suc k) bs = ap suc (changed_length cs k bs)
+
+changed_marks : (cs : List Cell) (k : ℕ) (bs : List ℕ) → MarksFit cs → MarksFit (changed cs k bs)
+changed_marks [] k bs h = tt
+changed_marks (c ∷ cs) zero [] h = h
+changed_marks (c ∷ cs) zero (b ∷ bs) h = (tt, changed_marks cs zero bs h.1)
+changed_marks (c ∷ cs) (suc k) bs h = (h.0, changed_marks cs k bs h.1)
+
+pub changed_lawful : (cs : List Cell) (k : ℕ) (bs : List ℕ) → Lawful cs → Lawful (changed cs k bs)
+changed_lawful cs k bs l = record { bounded = omega (arith, changed_length cs k bs, l.bounded); marked = changed_marks cs k bs l.marked }

@@ -4,3 +4,4 @@ pub mod Lent
 pub mod Laws
 pub mod Hex
 pub mod Captured
+pub mod Changed

@@ -4,7 +4,9 @@
 pub mod bytes;
 pub mod capture;
 pub mod cell;
+pub mod change;
 mod hex;
 mod lent;
+pub mod patched;
 pub mod source;
 pub mod words;

@@ -13,10 +13,10 @@ use meaning::EvalFault;
 use path::Piece;
 
 pub mod evaluation;
-mod lookup;
+pub mod lookup;
 mod numbers;
 mod reach;
-mod rows;
+pub mod rows;
 mod truths;
 
 // What is told stands here: inside the cycle of calls every return would owe it.

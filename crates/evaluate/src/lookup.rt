@@ -24,11 +24,8 @@ impl Test<Piece> for AtPath {
     }
 }
 
-// The piece placed with a path.
-pub(crate) fn find_piece(
-    pieces: &mut BoundedList<'_, Piece>,
-    path: Path,
-) -> Result<Piece, EvalFault>
+/// The piece placed with a path.
+pub fn find_piece(pieces: &mut BoundedList<'_, Piece>, path: Path) -> Result<Piece, EvalFault>
     ensures value { as_piece result ≡ placed (pieces_of (contents pieces.old)) (path_of path) }
     ensures same { pieces.new ≡ pieces.old }
 {

@@ -7,15 +7,15 @@ ghost use Rattle.meaning.specs.Stands.{is_bool};
 use sheet::CheckedSheet;
 use sheet_text::{Base, Column, Row, TypeWord, Word};
 
-// The row with a number. Past the last row it is void, as in the definitions, which need no case for it.
-pub(crate) fn row_at(sheet: &CheckedSheet<'_, '_>, row: usize) -> Row
+/// The row with a number. Past the last row it is void, as in the definitions, which need no case for it.
+pub fn row_at(sheet: &CheckedSheet<'_, '_>, row: usize) -> Row
     ensures { result ≡ row_at (rows_of sheet.now) row }
 {
     sheet.rows().get(row).copied().unwrap_or(Row::BLANK)
 }
 
-// The row that a column names, if it names one.
-pub(crate) fn ref_in(column: Column) -> Option<usize>
+/// The row that a column names, if it names one.
+pub fn ref_in(column: Column) -> Option<usize>
     ensures { result ≡ ref_of column }
 {
     column.number().map(|n| n as usize)

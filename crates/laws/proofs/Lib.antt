@@ -5,6 +5,7 @@ pub mod Taken
 pub mod Sound
 pub mod Complete
 pub mod Accepts
+pub mod Rereads
 pub mod Prefix
 pub mod Nested
 pub mod Named

@@ -2,3 +2,4 @@ pub mod Unfolds
 pub mod Distinct
 pub mod Nesting
 pub mod Laws
+pub mod Rereads

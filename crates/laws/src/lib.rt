@@ -2,6 +2,7 @@
 #![tactic(auto)]
 
 ghost use Rattle.laws.specs.Laws.{OneReading, AcceptsReadings, CoveredCellsDecide, PathsDiffer, RowsUnfold, TypesShallow};
+ghost use Rattle.laws.specs.Rereads.{RereadDecides};
 
 /// Of all lists of pieces at most one is a reading of a message by a sheet.
 pub fn one_reading()
@@ -11,6 +12,11 @@ pub fn one_reading()
 /// The matcher accepts exactly when a reading exists and fits the list, and then with that reading.
 pub fn accepts_readings()
     ensures { AcceptsReadings }
+{}
+
+/// The matcher, told to place nothing but some pieces, places them all exactly if they are a reading.
+pub fn rereads_decide()
+    ensures { RereadDecides }
 {}
 
 /// A reading is decided by the cells that it covers.

@@ -1,6 +1,8 @@
 -- The front of a list, place by place.
-use Rattle.std.proofs.Common.{◌≡◌, ℕ, zero, suc, ◌<◌, ◌≤◌, List, [], ◌∷◌, length, get_or, take, set, Some, None, sym, refl, ap, ◌∙◌, arith, length-take}
+use Rattle.std.proofs.Common.{◌≡◌, ℕ, zero, suc, ◌+◌, ◌<◌, ◌≤◌, List, [], ◌∷◌, ◌++◌, length, get_or, take, set, Some, None, Option, sym, refl, ap, ◌∙◌, add-one, arith, length-take}
 use Rattle.std.specs.List.{slice_get}
+use Rattle.std.specs.Option.{MatchOption}
+use Rattle.std.proofs.lemmas.List.{length-take-le}
 use Rattle.std.proofs.lemmas.Option.{slice_get_past, slice_get_read}
 
 module _ {X : Type 0} where
@@ -32,3 +34,18 @@ module _ {X : Type 0} where
   nth_front_read n xs i x h e =
       let k : i < length xs = omega (arith, length-take n xs) in
       sym (slice_get_read xs (length xs) i x refl k e) ∙ nth_front n xs i h
+
+  -- the entry behind the first n, taken to them
+  one_more : (n : ℕ) (xs : List X) → n < length xs → (x : X) × (slice_get xs n ≡ Some x) × (take (suc n) xs ≡ take n xs ++ x ∷ [])
+  one_more n [] h = absurd (omega arith)
+  one_more zero (y ∷ xs) h = (y, refl, refl)
+  one_more (suc n) (y ∷ xs) h = let r = one_more n xs (omega arith) in (r.0, r.1, ap (λ l. y ∷ l) r.2)
+
+  pub restored : (P : Type 0) (n : ℕ) (xs ys : List X) (r : Option X) → n < length xs → r ≡ slice_get ys n → ys ≡ take (n + 1) xs
+      → MatchOption r P (λ x. (slice_get xs (length (take n xs)) ≡ Some x) × (ys ≡ take n xs ++ x ∷ []))
+  restored P n xs ys r h e f =
+      let o = one_more n xs h in
+      let k : length (take n xs) ≡ n = length-take-le n xs (omega arith) in
+      let g : ys ≡ take (suc n) xs = rw add-one at f in
+      let is : r ≡ Some o.0 = e ∙ ap (λ l. slice_get l n) g ∙ nth_take (suc n) xs n (omega arith) ∙ o.1 in
+      rw is (ap (slice_get xs) k ∙ o.1, g ∙ o.2)

@@ -1,6 +1,6 @@
 // What a caller can do with a list. What a call leaves as it was stands at each call: it speaks of two
 // values of the list, so it is no fact of its type.
-ghost use Rattle.std.specs.Prelude.{◌≡◌, ℕ, ◌-◌, ◌<◌, [], ◌∷◌, ◌++◌, length, take, if◌then◌else◌, MatchOption, MatchResult, nat_lt, slice_set};
+ghost use Rattle.std.specs.Prelude.{◌≡◌, ℕ, ◌-◌, ◌<◌, [], ◌∷◌, ◌++◌, length, take, if◌then◌else◌, MatchOption, MatchResult, Some, nat_lt, slice_set};
 ghost use Rattle.std.specs.List.{slice_get};
 ghost use Rattle.list.specs.Contents.{Found, NonePasses, backing, contents, first_of, room, used};
 
@@ -15,6 +15,15 @@ impl<'a, T: Copy> BoundedList<'a, T> {
         ensures lender { result.entries.ghost_name ≡ entries.entry.ghost_name }
     {
         BoundedList { entries, count: 0 }
+    }
+
+    /// A list that holds the first `count` entries, or all if there are no more.
+    pub fn holding(entries: &'a mut [T], count: usize) -> Self
+        ensures contents { contents result ≡ take count entries.old }
+        ensures backing { backing result ≡ entries.old }
+        ensures lender { result.entries.ghost_name ≡ entries.entry.ghost_name }
+    {
+        BoundedList { entries, count }
     }
 
     /// How many entries the list can hold.
@@ -71,6 +80,26 @@ impl<'a, T: Copy> BoundedList<'a, T> {
         write_at(self.entries, count, x);
         self.count = count + 1;
         Ok(())
+    }
+
+    /// Takes the entry that stands behind the last one back into use, as it stands there; none exactly if every
+    /// place is in use.
+    #[tactic(auto, using(crate::proofs::Fronts::restored))]
+    pub fn restore(&mut self) -> Option<T>
+        ensures cases { MatchOption result
+            ((used self.old ≡ room self.old)
+            × (self.new ≡ self.old))
+            (λ x. (slice_get (backing self.old) (used self.old) ≡ Some x)
+            × (contents self.new ≡ contents self.old ++ x ∷ [])) }
+        ensures backing { backing self.new ≡ backing self.old }
+        ensures lender { self.new.entries.ghost_name ≡ self.old.entries.ghost_name }
+    {
+        let count = self.count;
+        if count >= places(self.entries) {
+            return None;
+        }
+        self.count += 1;
+        self.get(count)
     }
 
     /// Takes the last entry off.

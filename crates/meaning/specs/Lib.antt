@@ -6,3 +6,4 @@ pub mod Values
 pub mod Layouts
 pub mod Matcher
 pub mod Readings
+pub mod Kept
