@@ -1,3 +1,4 @@
 pub mod Shares
 pub mod Wholes
 pub mod Lengths
+pub mod LaidLengths

@@ -1,11 +1,17 @@
--- Parts of the cells.
-use Rattle.std.proofs.Common.{◌≡◌, ℕ, ◌+◌, ◌-◌, ◌*◌, ◌<◌, ◌≤◌, List, [], ◌∷◌, ◌++◌, length, get_or, take, drop, refl, ap, ◌∙◌, arith, length-append}
+-- Parts of the cells, and lines of pieces.
+use Rattle.std.proofs.Common.{◌≡◌, ℕ, ◌+◌, ◌-◌, ◌*◌, ◌<◌, ◌≤◌, List, [], ◌∷◌, ◌++◌, map, length, get_or, take, drop, decimal, sym, refl, ap, ◌∙◌, append-nil, arith, length-append}
 use Rattle.std.specs.List.{flat_map}
-use Rattle.std.proofs.lemmas.List.{length-drop, get_or-drop}
+use Rattle.std.proofs.lemmas.List.{flat_map_more, length-drop, get_or-drop, map-append, map_more, take_more}
+use Rattle.std.proofs.lemmas.Grind.{flat_map-append}
 use Rattle.std.proofs.lemmas.Option.{slice_get-get_or}
 use Rattle.cells.specs.Cells.{read_at, answered, cell_read}
 use Rattle.cells.specs.declared.cell.Cell.{Cell}
 use Rattle.cells.specs.declared.cell.Cell.TheVariants.{Byte, Lost}
+use Rattle.path.specs.declared.Piece.{Piece}
+use Rattle.meaning.specs.Terms.{PieceSpec, piece_of, pieces_of}
+use Rattle.listing.specs.Lines.{ended, whole_text}
+use Rattle.listing.specs.Rows.{behind_comma}
+use Rattle.listing.specs.Said.{numbers_text}
 use Rattle.listing.specs.Parts.{cell_text, answer_text}
 use Rattle.line.proofs.Pieces.{part_more}
 
@@ -37,3 +43,21 @@ two (Lost m) = refl
 pub length_cells : (cs : List Cell) → length (flat_map cell_text cs) ≡ 2 * length cs
 length_cells [] = refl
 length_cells (c ∷ cs) = omega (arith, two c, length_cells cs, length-append {A = ℕ})
+
+-- one line more, each of a piece
+pub piece_more : (line : PieceSpec → List ℕ) (ps : List Piece) (i : ℕ) (p : Piece) → i < length ps → p ≡ get_or ps i p
+    → whole_text (map line (pieces_of (take i ps))) ++ ended (line (piece_of p)) ≡ whole_text (map line (pieces_of (take (i + 1) ps)))
+piece_more line ps i p h e =
+    let front = pieces_of (take i ps) in
+    let x = piece_of (get_or ps i p) in
+    ap (λ q. whole_text (map line front) ++ ended (line (piece_of q))) e
+    ∙ flat_map_more ended [] (map line front) (line x)
+    ∙ ap whole_text (sym (ap (map line) (map_more piece_of ps i p h) ∙ map-append line front (x ∷ [])))
+
+-- a last line behind others
+pub line_last : (first : List ℕ) (xs : List (List ℕ)) (x : List ℕ) → ended first ++ (whole_text xs ++ ended x) ≡ whole_text (first ∷ (xs ++ (x ∷ [])))
+line_last first xs x = ap (λ t. ended first ++ t) (ap (λ t. whole_text xs ++ t) (sym (append-nil (ended x))) ∙ sym (flat_map-append ended xs (x ∷ [])))
+
+-- one number more behind a word
+pub numbers_more : (word ns : List ℕ) (i : ℕ) → i < length ns → numbers_text word (take i ns) ++ behind_comma (decimal (get_or ns i 0)) ≡ numbers_text word (take (i + 1) ns)
+numbers_more word ns i h = flat_map_more (λ n. behind_comma (decimal n)) word (take i ns) (get_or ns i 0) ∙ ap (numbers_text word) (sym (take_more ns i 0 h))

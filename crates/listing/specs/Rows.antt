@@ -2,6 +2,12 @@
 use Rattle.std.specs.Prelude.{ℕ, ◌-◌, List, ◌∷◌, ◌++◌, length, Some, None, codes, decimal, Option}
 use Rattle.cells.specs.declared.cell.Cell.{Cell}
 use Rattle.told.specs.declared.Told.{Told}
+use Rattle.sheet_text.specs.Table.{spelling}
+use Rattle.sheet_text.specs.declared.row.Row.{Row}
+use Rattle.sheet_text.specs.declared.word.Word.{Word}
+use Rattle.sheet.specs.Verdict.{word_if}
+use Rattle.path.specs.Printed.{printed}
+use Rattle.meaning.specs.Terms.{PieceSpec}
 use Rattle.listing.specs.Parts.{bytes_text, part_of}
 
 -- a value behind a comma
@@ -12,6 +18,15 @@ behind_comma bs = 44 ∷ bs
 abbrev pub tail_text : List Cell → List ℕ → ℕ → ℕ → List ℕ
 tail_text cells word place width =
     behind_comma word ++ (behind_comma (decimal place) ++ (behind_comma (decimal width) ++ behind_comma (bytes_text (part_of cells place width))))
+
+-- the word of a row, or a dash where there is none
+abbrev pub word_text : Option Word → List ℕ
+word_text None = codes "-"
+word_text (Some w) = spelling w
+
+-- a piece: its path in print, the word of its row, its place, its width and its cells
+abbrev pub piece_text : List Row → List Cell → PieceSpec → List ℕ
+piece_text rows cells p = printed p.path ++ tail_text cells (word_text (word_if rows p.row)) p.place p.width
 
 -- what the cells have behind the covered ones
 abbrev pub rest_text : List Cell → ℕ → List ℕ

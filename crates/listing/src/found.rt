@@ -1,22 +1,63 @@
 // The two things that a listing can tell.
+ghost use Rattle.std.specs.Prelude.{◌≡◌, length, map};
 ghost use Rattle.listing.specs.Lines.{laid, fault, lines_of, whole_text};
-ghost use Rattle.listing.specs.Rows.{rest_text};
+ghost use Rattle.listing.specs.Rows.{piece_text, rest_text, word_text};
+ghost use Rattle.meaning.specs.Terms.{piece_of, pieces_of};
+ghost use Rattle.sheet.specs.Sheets.{rows_of};
+ghost use Rattle.sheet.specs.Verdict.{word_if};
 
 use crate::part::Part;
 use crate::rows::{put_tail, put_told};
 use cells::source::Source;
 use line::Text;
 use line::sink::Sink;
+use path::Piece;
+use sheet::CheckedSheet;
 use told::Told;
 
-// A message, and how many of its cells are covered.
+// The pieces that a sheet has in a message, and how many of its cells they cover.
 #[derive(Drop)]
-pub(crate) struct Laying<'s, S> {
+pub(crate) struct Laying<'s, 't, 'r, S> {
+    pub sheet: &'s CheckedSheet<'t, 'r>,
     pub source: &'s S,
+    pub pieces: &'s [Piece],
     pub covered: usize,
 }
 
-impl<'s, S: Source> Laying<'s, S> {
+impl<S: Source> Laying<'_, '_, '_, S> {
+    // Writes a piece.
+    fn put_piece<W: Sink>(&self, out: &mut W, piece: &Piece)
+        ensures { W.Sink.took out.old (piece_text (rows_of self.now.sheet.now) (S.Source.cells self.now.source.now) (piece_of piece.now)) out.new }
+    {
+        let part = Part {
+            source: self.source,
+            place: usize::from(piece.place),
+            width: usize::from(piece.width),
+        };
+        piece.path.write(out);
+        put_tail(out, self.word_of(piece), &part);
+    }
+
+    // The word of a piece's row, or a dash.
+    fn word_of(&self, piece: &Piece) -> &'static [u8]
+        ensures { result.now ≡ word_text (word_if (rows_of self.now.sheet.now) piece.now.row) }
+    {
+        match self.sheet.word(usize::from(piece.row)) {
+            Some(word) => word.text().as_bytes(),
+            None => b"-",
+        }
+    }
+
+    // Writes a line for each piece.
+    fn put_pieces<W: Sink>(&self, out: &mut W)
+        ensures { W.Sink.took out.old (whole_text (map (piece_text (rows_of self.now.sheet.now) (S.Source.cells self.now.source.now)) (pieces_of self.now.pieces.now))) out.new }
+    {
+        for piece in self.pieces {
+            self.put_piece(out, piece);
+            out.text(b"\n");
+        }
+    }
+
     // Writes what the cells have behind the covered ones.
     fn put_rest<W: Sink>(&self, out: &mut W)
         ensures { W.Sink.took out.old (rest_text (S.Source.cells self.now.source.now) self.now.covered) out.new }
@@ -31,11 +72,14 @@ impl<'s, S: Source> Laying<'s, S> {
     }
 }
 
-impl<'s, S: Source> Text for Laying<'s, S> {
-    ghost text = { λ l. whole_text (lines_of (laid (S.Source.cells l.source.now) l.covered)) };
+impl<S: Source> Text for Laying<'_, '_, '_, S> {
+    ghost text = { λ l. whole_text (lines_of (laid (rows_of l.sheet.now) (S.Source.cells l.source.now) (pieces_of l.pieces.now) l.covered)) };
+
+    ghost longest = { λ l. length (whole_text (lines_of (laid (rows_of l.sheet.now) (S.Source.cells l.source.now) (pieces_of l.pieces.now) l.covered))) };
 
     fn write<W: Sink>(&self, out: &mut W) {
         out.text(b"path,word,place,width,bytes\n");
+        self.put_pieces(out);
         self.put_rest(out);
         out.text(b"\n");
     }
@@ -49,6 +93,8 @@ pub(crate) struct Refused {
 
 impl Text for Refused {
     ghost text = { λ r. whole_text (lines_of (fault r.told)) };
+
+    ghost longest = { λ r. 200 };
 
     fn write<W: Sink>(&self, out: &mut W) {
         out.text(b"fault,line,row,place,pieces,lost,layers\n");

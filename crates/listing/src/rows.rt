@@ -1,5 +1,5 @@
 // Values of a listing's lines, and the line of a refusal.
-ghost use Rattle.std.specs.Prelude.{ℕ, List};
+ghost use Rattle.std.specs.Prelude.{ℕ, ◌≤◌, List, length};
 ghost use Rattle.cells.specs.declared.cell.Cell.{Cell};
 ghost use Rattle.listing.specs.Rows.{behind_comma, tail_text, value_text, told_text};
 
@@ -10,7 +10,8 @@ use told::Told;
 
 // Writes a value behind a comma, or a dash for one that is lacking.
 fn put_value<W: Sink>(out: &mut W, value: Option<u64>)
-    ensures { W.Sink.took out.old (behind_comma (value_text value)) out.new }
+    ensures took { W.Sink.took out.old (behind_comma (value_text value)) out.new }
+    ensures short { length (value_text value) ≤ 20 }
 {
     out.text(b",");
     match value {
@@ -32,7 +33,8 @@ pub(crate) fn put_tail<W: Sink, S: Source>(out: &mut W, word: &[u8], part: &Part
 }
 
 pub(crate) fn put_told<W: Sink>(out: &mut W, told: Told)
-    ensures { W.Sink.took out.old (told_text told) out.new }
+    ensures took { W.Sink.took out.old (told_text told) out.new }
+    ensures short { length (told_text told) ≤ 146 }
 {
     out.number(u64::from(told.number));
     for value in [

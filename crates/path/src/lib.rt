@@ -16,6 +16,8 @@ mod tests;
 pub const STEPS_MAX: usize = 8;
 /// The highest number that an element can have.
 pub const INDEX_MAX: u64 = 65534;
+/// No path is longer in print.
+pub const PRINTED_MAX: usize = 140;
 /// How many bytes of memory a piece takes.
 pub const PIECE_SIZE: usize = size_of::<Piece>();
 

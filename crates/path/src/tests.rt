@@ -7,7 +7,7 @@ fn comes_back(text: &[u8]) -> bool {
     let Some(path) = Path::parse(text) else {
         return false;
     };
-    let mut places = [0u8; 140];
+    let mut places = [0u8; PRINTED_MAX];
     let mut line = Line::new(&mut places);
     path.print(&mut line).is_ok() && line.as_bytes() == text
 }

@@ -1,5 +1,5 @@
 -- The words and their texts.
-use Rattle.std.proofs.Common.{◌≡◌, ℕ, Bool, true, false, cond, List, [], ◌∷◌, Some, sym, refl, ap, ◌∙◌, arith}
+use Rattle.std.proofs.Common.{◌≡◌, ℕ, ◌≤◌, Bool, true, false, cond, List, [], ◌∷◌, length, Some, sym, refl, ap, ◌∙◌, arith}
 use Rattle.std.specs.Str.{bytes_eq}
 use Rattle.std.proofs.lemmas.Slice.Eq.{bytes_eq-Decides}
 use Rattle.sheet_text.specs.Table.{spelling, words, spelled}
@@ -53,3 +53,37 @@ spelled_words (word.Truth truth.Lt) = refl
 spelled_words word.From = refl
 spelled_words (word.Step step.Dot) = refl
 spelled_words (word.Step step.Idx) = refl
+
+-- no word is longer
+pub spelling_short : (w : Word) → length (spelling w) ≤ 6
+spelling_short (word.Type (type.Base base.Bool)) = omega arith
+spelling_short (word.Type (type.Base base.Char)) = omega arith
+spelling_short (word.Type (type.Base base.U8)) = omega arith
+spelling_short (word.Type (type.Base base.U16)) = omega arith
+spelling_short (word.Type (type.Base base.I16)) = omega arith
+spelling_short (word.Type (type.Base base.U32)) = omega arith
+spelling_short (word.Type (type.Base base.I32)) = omega arith
+spelling_short (word.Type (type.Base base.Float)) = omega arith
+spelling_short (word.Type (type.Base base.U64)) = omega arith
+spelling_short (word.Type (type.Base base.I64)) = omega arith
+spelling_short (word.Type (type.Base base.Double)) = omega arith
+spelling_short (word.Type type.Void) = omega arith
+spelling_short (word.Type type.Rec) = omega arith
+spelling_short (word.Type type.Arr) = omega arith
+spelling_short (word.Type type.Alt) = omega arith
+spelling_short word.Field = omega arith
+spelling_short (word.Number number.Lit) = omega arith
+spelling_short (word.Number number.Loc) = omega arith
+spelling_short (word.Number number.Add) = omega arith
+spelling_short (word.Number number.Mul) = omega arith
+spelling_short (word.Truth truth.True) = omega arith
+spelling_short (word.Truth truth.False) = omega arith
+spelling_short (word.Truth truth.Bloc) = omega arith
+spelling_short (word.Truth truth.Not) = omega arith
+spelling_short (word.Truth truth.And) = omega arith
+spelling_short (word.Truth truth.Or) = omega arith
+spelling_short (word.Truth truth.Eq) = omega arith
+spelling_short (word.Truth truth.Lt) = omega arith
+spelling_short word.From = omega arith
+spelling_short (word.Step step.Dot) = omega arith
+spelling_short (word.Step step.Idx) = omega arith

@@ -138,8 +138,8 @@ impl Word {
         Word::Step(StepWord::Idx),
     ];
 
-    // The text of the word in a sheet.
-    fn text(self) -> &'static str
+    /// The text of the word in a sheet.
+    pub fn text(self) -> &'static str
         ensures { result.now ≡ spelling self }
     {
         match self {

@@ -1,1 +1,2 @@
 pub mod Layings
+pub mod Puttings

@@ -9,6 +9,7 @@ use Rattle.layers.specs.Layers.{swapped, windowed}
 use Rattle.cells.specs.Captured.{opened}
 use Rattle.cells.specs.Refusals.{bad_pair, lost_cell}
 use Rattle.worked.specs.Layings.{SheetsAccepted, TwoPoints, LostCount, ListOfTwo, CutPoint, EmptyRecords, VoidOpened, AboveLimit, CountInBothVersions, CountBehindArray, OwnCounts}
+use Rattle.worked.specs.Puttings.{PutsToPoints}
 
 abbrev mark : ℕ → ℕ → Mark
 mark place layers = record { place = place; layers = layers }
@@ -50,3 +51,4 @@ pub record Examples : Type 0 where
   pub count_in_both_versions : CountInBothVersions
   pub count_behind_array : CountBehindArray
   pub own_counts : OwnCounts
+  pub puts_to_points : PutsToPoints

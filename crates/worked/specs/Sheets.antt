@@ -24,7 +24,7 @@ sheet rows = lines_of ("row,word,name,one,two,three" ∷ rows)
 abbrev pub Accepted : List String → ℕ → Type 0
 Accepted rows n = (read_of (sheet rows) 256).result ≡ Ok n
 
-abbrev cells_in : Answer (List Cell) → List Cell
+abbrev pub cells_in : Answer (List Cell) → List Cell
 cells_in (given cells) = cells
 cells_in (refused t) = []
 

@@ -6,6 +6,7 @@ use Rattle.layers.specs.Layers.{swapped, windowed}
 use Rattle.cells.specs.Captured.{capture_cells}
 use Rattle.worked.specs.Examples.{SwapOfThree, WindowOnFour, CaptureOfFour, LostUnderWindow, CutPair}
 use Rattle.worked.proofs.Layings.{sheets, two_points, lost_count, list_of_two, cut_point, empty_records, void_opened, above_limit, count_in_both_versions, count_behind_array, own_counts}
+use Rattle.worked.proofs.Puttings.{puts_to_points}
 use Rattle.worked.proofs.worked_examples_hold.Goals as goal
 
 swaps : SwapOfThree
@@ -49,4 +50,5 @@ returns c = record {
   count_in_both_versions = count_in_both_versions;
   count_behind_array = count_behind_array;
   own_counts = own_counts;
+  puts_to_points = puts_to_points;
 }

@@ -1,0 +1,34 @@
+use Rattle.std.proofs.Common.{refl, ◌∙◌, arith, ◌<◌, length}
+use Rattle.sheet.specs.Sheets.{rows_of, text_of}
+use Rattle.reading.specs.States.{state_of}
+use Rattle.reading.specs.Steps.{done}
+use Rattle.reading.proofs.Settling.{run_settled}
+use Rattle.reading.proofs.Once.{run_once}
+use Rattle.reading.proofs.Runs.{one_reading, run_more, rest_more}
+use Rattle.reading.proofs.running.run.Goals as goal
+
+pub loop-i-init : goal.loop-i-init
+loop-i-init g c = (done, refl, refl, refl)
+
+pub loop-i-preserved : goal.loop-i-preserved
+loop-i-preserved g c =
+    let h : c.loop-i.i < length c.args.calls.now = omega arith in
+    let k : c.loop-i.i < length c.loop-i.answers = omega arith in (
+      run_more (text_of c.args.sheet.now) (rows_of c.args.sheet.now)
+          {s = state_of (g.S.Source.cells c.args.store.now) c.args.pieces.now c.args.laid.now}
+          {t = state_of (g.S.Source.cells c.loop-i.store) c.loop-i.pieces c.loop-i.laid}
+          {u = state_of (g.S.Source.cells c.answer.new.store) c.answer.new.pieces c.answer.new.laid}
+          c.args.calls.now c.loop-i.answers c.loop-i.i _ c.answer.result h k c.loop-i.invariant.0 c.answer.ensures.made,
+      rest_more c.loop-i.answers c.args.answers.now c.loop-i.i c.answer.result c.loop-i.invariant.1,
+      c.answer.ensures.spares ∙ c.loop-i.invariant.2,
+      c.answer.ensures.fixed ∙ c.loop-i.invariant.3,
+    )
+
+pub returns-clause-once : goal.returns-clause-once
+returns-clause-once g c = run_once (text_of c.args.sheet.now) (rows_of c.args.sheet.now)
+
+pub returns-clause-one : goal.returns-clause-one
+returns-clause-one g c = one_reading (text_of c.args.sheet.now) (rows_of c.args.sheet.now)
+
+pub returns-clause-settled : goal.returns-clause-settled
+returns-clause-settled g c = run_settled (text_of c.args.sheet.now) (rows_of c.args.sheet.now) c.loop-i.invariant.0

@@ -1,0 +1,11 @@
+pub mod Rows
+pub mod Opens
+pub mod NextParts
+pub mod Turning
+pub mod Keeping
+pub mod Running
+pub mod Roots
+pub mod Idling
+pub mod Marking
+pub mod Ends
+pub mod Passing
