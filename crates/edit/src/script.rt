@@ -32,7 +32,7 @@ impl<'s> Spoken<'s> {
 }
 
 // Appends the bytes of a capture, unless one is lost.
-pub fn push_bytes(bytes: &mut Vec<u8>, capture: &Capture<'_>) -> anyhow::Result<()> {
+pub(crate) fn push_bytes(bytes: &mut Vec<u8>, capture: &Capture<'_>) -> anyhow::Result<()> {
     for k in 0..capture.len() {
         let Ok(byte) = capture.read(k) else {
             bail!("cell {k} is lost");
@@ -43,7 +43,7 @@ pub fn push_bytes(bytes: &mut Vec<u8>, capture: &Capture<'_>) -> anyhow::Result<
 }
 
 // The bytes of all puts of a script, one after another.
-pub fn put_bytes(rt: &HostRuntime, script: &[u8]) -> anyhow::Result<Vec<u8>> {
+pub(crate) fn put_bytes(rt: &HostRuntime, script: &[u8]) -> anyhow::Result<Vec<u8>> {
     let mut bytes = Vec::new(rt.alloc());
     for text in script.split(|b| *b == b'\n') {
         if let Some(Spoken::Put(_, digits)) = Spoken::read(text) {
@@ -57,7 +57,7 @@ pub fn put_bytes(rt: &HostRuntime, script: &[u8]) -> anyhow::Result<Vec<u8>> {
 }
 
 // The calls of a script, over the bytes of its puts. Empty lines are passed over.
-pub fn calls_of<'c>(
+pub(crate) fn calls_of<'c>(
     rt: &HostRuntime,
     script: &'c [u8],
     bytes: &'c [u8],
