@@ -6,3 +6,4 @@ pub mod Lays
 pub mod Puts
 pub mod Calls
 pub mod Decided
+pub mod Law

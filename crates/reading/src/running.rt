@@ -2,9 +2,9 @@
 ghost use Rattle.std.specs.Prelude.{◌≡◌, min, map, length, take, drop};
 ghost use Rattle.sheet.specs.Sheets.{rows_of, text_of};
 ghost use Rattle.reading.specs.Calls.{asked, said};
-ghost use Rattle.reading.specs.States.{Settled, state_of};
-ghost use Rattle.reading.specs.Decided.{OneRun};
-ghost use Rattle.reading.specs.Steps.{OneReading, Made, Run};
+ghost use Rattle.reading.specs.States.{state_of};
+ghost use Rattle.reading.specs.Law.{Law};
+ghost use Rattle.reading.specs.Steps.{Made};
 
 use crate::Laid;
 use crate::answers::{Answer, Call};
@@ -57,13 +57,9 @@ pub fn run<S: Store>(
     calls: &[Call<'_>],
     answers: &mut [Answer],
 ) -> usize
-    ensures once { OneRun (text_of sheet.now) (rows_of sheet.now) }
-    ensures one { OneReading (text_of sheet.now) (rows_of sheet.now) }
-    ensures count { result ≡ min (length calls.now) (length answers.old) }
-    ensures runs { Run (text_of sheet.now) (rows_of sheet.now) (state_of (S.Source.cells store.old) pieces.old laid.old) (map asked (take result calls.now))
+    ensures law { Law (text_of sheet.now) (rows_of sheet.now) (state_of (S.Source.cells store.old) pieces.old laid.old) (map asked (take result calls.now))
         (map said (take result answers.new)) (state_of (S.Source.cells store.new) pieces.new laid.new) }
-    ensures settled { Settled (text_of sheet.now) (rows_of sheet.now) (state_of (S.Source.cells store.old) pieces.old laid.old) →
-        Settled (text_of sheet.now) (rows_of sheet.now) (state_of (S.Source.cells store.new) pieces.new laid.new) }
+    ensures count { result ≡ min (length calls.now) (length answers.old) }
     ensures rest { drop result answers.new ≡ drop result answers.old }
     ensures spares { S.Store.spares store.new ≡ S.Store.spares store.old }
     ensures fixed { S.Store.fixed store.new ≡ S.Store.fixed store.old }

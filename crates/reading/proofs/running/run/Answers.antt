@@ -1,5 +1,6 @@
-use Rattle.std.proofs.Common.{refl, ◌∙◌, arith, ◌<◌, length}
+use Rattle.std.proofs.Common.{rules, refl, ◌∙◌, arith, ◌<◌, length}
 use Rattle.sheet.specs.Sheets.{rows_of, text_of}
+use Rattle.laws.proofs.Accepts.{accepts_readings}
 use Rattle.reading.specs.States.{state_of}
 use Rattle.reading.specs.Steps.{done}
 use Rattle.reading.proofs.Settling.{run_settled}
@@ -24,11 +25,14 @@ loop-i-preserved g c =
       c.answer.ensures.fixed ∙ c.loop-i.invariant.3,
     )
 
-pub returns-clause-once : goal.returns-clause-once
-returns-clause-once g c = run_once (text_of c.args.sheet.now) (rows_of c.args.sheet.now)
-
-pub returns-clause-one : goal.returns-clause-one
-returns-clause-one g c = one_reading (text_of c.args.sheet.now) (rows_of c.args.sheet.now)
-
-pub returns-clause-settled : goal.returns-clause-settled
-returns-clause-settled g c = run_settled (text_of c.args.sheet.now) (rows_of c.args.sheet.now) c.loop-i.invariant.0
+pub returns-clause-law : goal.returns-clause-law
+returns-clause-law g c =
+    let text = text_of c.args.sheet.now in
+    let rows = rows_of c.args.sheet.now in
+    record {
+      one = one_reading text rows;
+      accepts = accepts_readings text rows;
+      runs = search rules;
+      settled = run_settled text rows c.loop-i.invariant.0;
+      once = run_once text rows;
+    }
