@@ -32,6 +32,7 @@ pub(crate) fn put_tail<W: Sink, S: Source>(out: &mut W, word: &[u8], part: &Part
     part.put_bytes(out);
 }
 
+// Writes the number of a refusal and the values that it carries.
 pub(crate) fn put_told<W: Sink>(out: &mut W, told: Told)
     ensures took { W.Sink.took out.old (told_text told) out.new }
     ensures short { length (told_text told) ≤ 146 }

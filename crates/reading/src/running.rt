@@ -48,7 +48,8 @@ fn answer<S: Store>(
     }
 }
 
-/// As many calls as there are places for answers; how many that were.
+/// Makes the calls one after another, as many as there are places for answers, and writes each answer to its
+/// place. Answers how many calls that were.
 pub fn run<S: Store>(
     sheet: &CheckedSheet<'_, '_>,
     store: &mut S,
