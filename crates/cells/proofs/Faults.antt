@@ -74,9 +74,6 @@ no_fault t e = none_from t (bad_from 0 t) (says 0 t) e
 pub first_fault : (t : List ℕ) (p : ℕ) → bad_from 0 t ≡ Some p → FirstFault t p
 first_fault t p e = some_from t (bad_from 0 t) p (says 0 t) e
 
-pub fault_within : (t : List ℕ) (p : ℕ) → bad_from 0 t ≡ Some p → p < length t
-fault_within t p e = let f = first_fault t p e in omega (arith, f.place, f.fault.0)
-
 -- so `bad_from` is told by which pairs are cut or bad
 none_by : (t : List ℕ) (o : Option ℕ) → Says 0 t o → ((i : ℕ) → PairFault t i → ⊥) → o ≡ None
 unfolding Says

@@ -9,4 +9,5 @@ mod hex;
 mod lent;
 pub mod patched;
 pub mod source;
+pub mod view;
 pub mod words;

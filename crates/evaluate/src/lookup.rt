@@ -24,7 +24,7 @@ impl Test<Piece> for AtPath {
     }
 }
 
-/// The piece placed with a path.
+/// The piece placed with a path, the last if there are several.
 pub fn find_piece(pieces: &mut BoundedList<'_, Piece>, path: Path) -> Result<Piece, EvalFault>
     ensures value { as_piece result ≡ placed (pieces_of (contents pieces.old)) (path_of path) }
     ensures same { pieces.new ≡ pieces.old }

@@ -5,7 +5,7 @@ use Rattle.meaning.specs.Terms.{Path, PieceSpec, total}
 use Rattle.meaning.specs.Terms.{Num, no_number, lit, loc, add, mul, Steps, no_steps, end, dot, idx, Truth, no_truth, yea, nay, bloc, not, both, either, eq, lt}
 use Rattle.meaning.specs.Terms.{Ty, Fields}
 use Rattle.path.specs.Meaning.{same_path}
-use Rattle.meaning.specs.Values.{Outcome, unknown, ◌then◌, limited, is_true, placed, located, unsigned, content, number, resolved, truth}
+use Rattle.meaning.specs.Values.{Outcome, unknown, ◌then◌, or_else, limited, is_true, placed, located, unsigned, content, number, resolved, truth}
 use Rattle.meaning.specs.Layouts.{piece_at, Layout, base', rec', arr', alt', LayFields, none', fld', LayElements, done', elem'}
 use Rattle.meaning.specs.Stands.{is_bool}
 use Rattle.laws.specs.Laws.{CoveredCellsDecide}
@@ -38,11 +38,12 @@ Within n (p ∷ ps) = (p.place + p.width ≤ n) × Within n ps
 placed_same : {V : Type 0} (n : ℕ) (A : List PieceSpec) (q : Path) (f f' : PieceSpec → Outcome V)
     → Within n A → ((p : PieceSpec) → p.place + p.width ≤ n → f p ≡ f' p) → (placed A q then f) ≡ (placed A q then f')
 placed_same n [] q f f' h g = refl
-placed_same n (p ∷ ps) q f f' h g =
-    elim (same_path p.path q) as (λ b. (cond b (Ok p) (placed ps q) then f) ≡ (cond b (Ok p) (placed ps q) then f')) [
-      | true ↦ g p h.0
-      | false ↦ placed_same n ps q f f' h.1 g
-    ]
+placed_same n (p ∷ ps) q f f' h g = go (placed ps q) (same_path p.path q) (placed_same n ps q f f' h.1 g)
+  where
+    go : (o : Outcome PieceSpec) (b : Bool) → (o then f) ≡ (o then f') → (or_else o (cond b (Ok p) unknown) then f) ≡ (or_else o (cond b (Ok p) unknown) then f')
+    go (Ok x) b e = e
+    go (Err x) true e = g p h.0
+    go (Err x) false e = refl
 
 located_same : {V : Type 0} (n : ℕ) (A : List PieceSpec) (open' : List Path) (c : ℕ) (q q' : Outcome Path) (f f' : PieceSpec → Outcome V)
     → Within n A → q ≡ q' → ((p : PieceSpec) → p.place + p.width ≤ n → f p ≡ f' p) → (located A open' c q then f) ≡ (located A open' c q' then f')

@@ -1,9 +1,10 @@
 // Places that text goes to, one text after another.
-ghost use Rattle.std.specs.Prelude.{ℕ, List, decimal};
+ghost use Rattle.std.specs.Prelude.{◌≡◌, ◌+◌, ◌<◌, ℕ, List, length, decimal};
 ghost use Rattle.line.specs.Digits.{hex_text};
 ghost use Rattle.line.specs.Fills.{Fills};
 ghost use Rattle.line.specs.Laws.{fills_joins, counted_joins};
 ghost use Rattle.line.specs.Sinks.{Joins, Counted};
+ghost use Rattle.line.specs.Text.{room, used};
 
 use crate::Line;
 use crate::digits::count_digits;
@@ -35,15 +36,24 @@ impl Sink for Line<'_> {
 
     ghost joins = { fills_joins };
 
-    fn text(&mut self, bytes: &[u8]) {
+    fn text(&mut self, bytes: &[u8])
+        ensures took { Fills self.old bytes.now self.new }
+        ensures full { room self.old < used self.old + length bytes.now → self.new ≡ self.old }
+    {
         let _ = self.push_text(bytes);
     }
 
-    fn number(&mut self, n: u64) {
+    fn number(&mut self, n: u64)
+        ensures took { Fills self.old (decimal n) self.new }
+        ensures full { room self.old < used self.old + length (decimal n) → self.new ≡ self.old }
+    {
         let _ = self.push_number(n);
     }
 
-    fn hex(&mut self, byte: u8) {
+    fn hex(&mut self, byte: u8)
+        ensures took { Fills self.old (hex_text byte) self.new }
+        ensures full { room self.old < used self.old + 2 → self.new ≡ self.old }
+    {
         let _ = self.push_hex(byte);
     }
 }

@@ -1,6 +1,7 @@
 // What is written as text.
-ghost use Rattle.std.specs.Prelude.{◌≡◌, ◌≤◌, ℕ, List, length};
+ghost use Rattle.std.specs.Prelude.{◌≡◌, ◌+◌, ◌≤◌, ℕ, false, List, length, MatchOption, nat_le};
 ghost use Rattle.line.specs.Fills.{Appends};
+ghost use Rattle.line.specs.Text.{room, used};
 
 use crate::sink::{Sink, Size};
 use crate::{Full, Line};
@@ -14,6 +15,10 @@ pub trait Text {
     // how long it can be
     ghost longest: { Self → ℕ };
 
+    /// No fewer bytes than the text has, where that is told without writing it.
+    fn most(&self) -> Option<usize>
+        ensures { MatchOption result (Unit {0}) (λ n. length (text self.now) ≤ n) };
+
     /// Writes the whole text.
     fn write<W: Sink>(&self, out: &mut W)
         ensures took { W.took out.old (text self.now) out.new }
@@ -21,14 +26,25 @@ pub trait Text {
 }
 
 impl<'a> Line<'a> {
+    // Whether there is room for the whole text. It is counted only where no bound tells.
+    fn takes<T: Text>(&self, what: &T) -> bool
+        ensures fits { result ≡ nat_le (used self.now + length (T.Text.text what.now)) (room self.now) }
+        ensures short { result ≡ false → length (T.Text.text what.now) ≤ T.Text.longest what.now }
+    {
+        if what.most().unwrap_or(usize::MAX) <= self.free() {
+            return true;
+        }
+        let mut size = Size { bytes: 0 };
+        what.write(&mut size);
+        size.bytes <= self.free()
+    }
+
     /// Appends the whole text of something, or refuses and changes nothing.
     pub fn push<T: Text>(&mut self, what: &T) -> Result<(), Full>
         ensures value { Appends self.old (T.Text.text what.now) result self.new }
         ensures short { length (T.Text.text what.now) ≤ T.Text.longest what.now }
     {
-        let mut size = Size { bytes: 0 };
-        what.write(&mut size);
-        if self.free() < size.bytes {
+        if !self.takes(what) {
             return Err(Full);
         }
         what.write(self);

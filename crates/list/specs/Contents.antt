@@ -20,17 +20,21 @@ module _ {T : Type 0} where
   abbrev pub used : BoundedList T → ℕ
   used l = length (contents l)
 
-  -- the first entry that passes
-  abbrev pub first_of : (T → Bool) → List T → Option T
-  first_of passes [] = None
-  first_of passes (x ∷ xs) = cond (passes x) (Some x) (first_of passes xs)
+  abbrev pub or_else : Option T → Option T → Option T
+  or_else (Some x) other = Some x
+  or_else None other = other
 
-  -- x stands among the entries and passes, and none before it does
+  -- the last entry that passes
+  abbrev pub last_of : (T → Bool) → List T → Option T
+  last_of passes [] = None
+  last_of passes (x ∷ xs) = or_else (last_of passes xs) (cond (passes x) (Some x) None)
+
+  -- x stands among the entries and passes, and none behind it does
   pub record Found (passes : T → Bool) (xs : List T) (x : T) : Type 0 where
     pub place : ℕ
     pub is : slice_get xs place ≡ Some x
     pub passing : passes x ≡ true
-    pub first : (j : ℕ) → j < place → (y : T) → slice_get xs j ≡ Some y → passes y ≡ false
+    pub last : (j : ℕ) → place < j → (y : T) → slice_get xs j ≡ Some y → passes y ≡ false
 
   -- no entry passes
   abbrev pub NonePasses : (T → Bool) → List T → Type 0

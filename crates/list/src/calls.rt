@@ -2,7 +2,7 @@
 // values of the list, so it is no fact of its type.
 ghost use Rattle.std.specs.Prelude.{◌≡◌, ℕ, ◌-◌, ◌<◌, [], ◌∷◌, ◌++◌, length, take, if◌then◌else◌, MatchOption, MatchResult, Some, nat_lt, slice_set};
 ghost use Rattle.std.specs.List.{slice_get};
-ghost use Rattle.list.specs.Contents.{Found, NonePasses, backing, contents, first_of, room, used};
+ghost use Rattle.list.specs.Contents.{Found, NonePasses, backing, contents, last_of, room, used};
 
 use crate::places::{entry_at, find_in, in_use, kept, places, replace_at, write_at};
 use crate::{BoundedList, Full, Test};
@@ -52,10 +52,10 @@ impl<'a, T: Copy> BoundedList<'a, T> {
         entry_at(self.entries, count, i)
     }
 
-    /// The first entry that passes a test.
+    /// The last entry that passes a test.
     #[tactic(auto, using(crate::proofs::Finds::searched))]
     pub fn find<P: Test<T>>(&mut self, test: &P) -> Option<T>
-        ensures value { result ≡ first_of (P.Test.holds test.now) (contents self.old) }
+        ensures value { result ≡ last_of (P.Test.holds test.now) (contents self.old) }
         ensures found { MatchOption result (NonePasses (P.Test.holds test.now) (contents self.old)) (Found (P.Test.holds test.now) (contents self.old)) }
         ensures same { self.new ≡ self.old }
     {

@@ -2,7 +2,7 @@
 // call of a list hands the slice to one that takes it for writing.
 ghost use Rattle.std.specs.Prelude.{◌≡◌, ◌<◌, min, length, take, if◌then◌else◌, nat_lt, slice_set};
 ghost use Rattle.std.specs.List.{slice_get};
-ghost use Rattle.list.specs.Contents.{first_of};
+ghost use Rattle.list.specs.Contents.{last_of};
 
 use crate::Test;
 use std::mem;
@@ -61,15 +61,16 @@ pub(crate) fn replace_at<T: Copy>(entries: &mut [T], count: usize, i: usize, x: 
     Some(mem::replace(&mut entries[i], x))
 }
 
-// The first entry in use that passes a test.
+// The last entry in use that passes a test.
 pub(crate) fn find_in<T: Copy, P: Test<T>>(entries: &mut [T], count: usize, test: &P) -> Option<T>
-    ensures value { result ≡ first_of (P.Test.holds test.now) (take count entries.old) }
+    ensures value { result ≡ last_of (P.Test.holds test.now) (take count entries.old) }
     ensures same { entries.new ≡ entries.old }
 {
-    let n = in_use(entries, count);
-    for entry in entries[..n].iter() {
-        if test.passes(entry) {
-            return Some(*entry);
+    let mut i = in_use(entries, count);
+    while i > 0 {
+        i -= 1;
+        if test.passes(&entries[i]) {
+            return Some(entries[i]);
         }
     }
     None

@@ -26,12 +26,13 @@ fn refuses_where_every_place_is_in_use(rt: HostRuntime) {
 }
 
 #[test]
-fn finds_the_first_that_passes(rt: HostRuntime) {
+fn finds_the_last_that_passes(rt: HostRuntime) {
     let mut places = [9u8; 3];
     let mut list = BoundedList::new(&mut places);
     assert!(rt; list.push(3).is_ok() && list.push(7).is_ok());
     assert_eq!(rt; list.find(&Above(3)), Some(7));
     assert_eq!(rt; list.find(&Above(7)), None);
     assert!(rt; list.replace(0, 8).is_some());
-    assert_eq!(rt; list.find(&Above(3)), Some(8));
+    assert_eq!(rt; list.find(&Above(3)), Some(7));
+    assert_eq!(rt; list.find(&Above(7)), Some(8));
 }

@@ -16,7 +16,7 @@ use Rattle.listing.proofs.Lengths.{piece_long, rest_long}
 use Rattle.listing.proofs.Shares.{line_last}
 
 -- a piece ends within so many cells
-abbrev Within : ℕ → PieceSpec → Type 0
+abbrev pub Within : ℕ → PieceSpec → Type 0
 Within n p = p.place + p.width ≤ n
 
 all_append : (n : ℕ) (T U : List PieceSpec) → AllByRecursion (Within n) T → AllByRecursion (Within n) U → AllByRecursion (Within n) (T ++ U)
@@ -25,7 +25,7 @@ all_append n (p ∷ T) U h k = (h.0, all_append n T U h.1 k)
 
 module _ (flag : ℕ → Bool) (cells : List Cell) where
   mutual
-    layout_ends : {τ : Ty} {P : Path} {O : List Path} {A T : List PieceSpec} → Layout flag cells τ P O A T → AllByRecursion (Within (length cells)) T
+    pub layout_ends : {τ : Ty} {P : Path} {O : List Path} {A T : List PieceSpec} → Layout flag cells τ P O A T → AllByRecursion (Within (length cells)) T
     layout_ends (base' h) = (h, tt)
     layout_ends (rec' l) = fields_end l
     layout_ends (arr' v h l) = elements_end l

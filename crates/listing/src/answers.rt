@@ -64,6 +64,10 @@ impl Text for Answers<'_> {
 
     ghost longest = { λ a. length (whole_text (map said_text (map said a.answers.now))) };
 
+    fn most(&self) -> Option<usize> {
+        None
+    }
+
     fn write<W: Sink>(&self, out: &mut W) {
         for answer in self.answers {
             put_answer(out, answer);

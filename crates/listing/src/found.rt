@@ -1,5 +1,5 @@
 // The two things that a listing can tell.
-ghost use Rattle.std.specs.Prelude.{◌≡◌, length, map};
+ghost use Rattle.std.specs.Prelude.{◌≡◌, ◌+◌, ◌*◌, ◌<◌, ◌≤◌, length, map};
 ghost use Rattle.listing.specs.Lines.{laid, fault, lines_of, whole_text};
 ghost use Rattle.listing.specs.Rows.{piece_text, rest_text, word_text};
 ghost use Rattle.meaning.specs.Terms.{piece_of, pieces_of};
@@ -14,6 +14,16 @@ use line::sink::Sink;
 use path::Piece;
 use sheet::CheckedSheet;
 use told::Told;
+
+// No fewer bytes than the line of a piece at that place and of that width has.
+fn most_of(place: u16, width: u8) -> usize
+    ensures is { result ≡ 192 + 2 * width }
+    ensures few { result ≤ 702 }
+    ensures place { place < 65536 }
+    ensures width { width < 256 }
+{
+    192 + 2 * usize::from(width)
+}
 
 // The pieces that a sheet has in a message, and how many of its cells they cover.
 #[derive(Drop)]
@@ -58,6 +68,19 @@ impl<S: Source> Laying<'_, '_, '_, S> {
         }
     }
 
+    // No fewer bytes than the lines of the pieces have.
+    fn most_of_pieces(&self) -> usize
+        requires { length self.now.pieces.now ≤ 65535 }
+        ensures lines { length (whole_text (map (piece_text (rows_of self.now.sheet.now) (S.Source.cells self.now.source.now)) (pieces_of self.now.pieces.now))) ≤ result }
+        ensures few { result ≤ 65535 * 702 }
+    {
+        let mut most = 0;
+        for piece in self.pieces {
+            most += most_of(piece.place, piece.width);
+        }
+        most
+    }
+
     // Writes what the cells have behind the covered ones.
     fn put_rest<W: Sink>(&self, out: &mut W)
         ensures { W.Sink.took out.old (rest_text (S.Source.cells self.now.source.now) self.now.covered) out.new }
@@ -77,6 +100,14 @@ impl<S: Source> Text for Laying<'_, '_, '_, S> {
 
     ghost longest = { λ l. length (whole_text (lines_of (laid (rows_of l.sheet.now) (S.Source.cells l.source.now) (pieces_of l.pieces.now) l.covered))) };
 
+    fn most(&self) -> Option<usize> {
+        if self.pieces.len() > 65535 {
+            return None;
+        }
+        let rest = self.source.len().saturating_sub(self.covered);
+        Some(self.most_of_pieces() + 2 * rest + 79)
+    }
+
     fn write<W: Sink>(&self, out: &mut W) {
         out.text(b"path,word,place,width,bytes\n");
         self.put_pieces(out);
@@ -95,6 +126,10 @@ impl Text for Refused {
     ghost text = { λ r. whole_text (lines_of (fault r.told)) };
 
     ghost longest = { λ r. 200 };
+
+    fn most(&self) -> Option<usize> {
+        None
+    }
 
     fn write<W: Sink>(&self, out: &mut W) {
         out.text(b"fault,line,row,place,pieces,lost,layers\n");

@@ -13,7 +13,7 @@ ghost use Rattle.meaning.specs.Terms.{pieces_of};
 ghost use Rattle.reading.specs.Calls.{said};
 ghost use Rattle.reading.specs.Outcomes.{laid_over};
 ghost use Rattle.input.specs.Parts.{sheet_text, capture_text};
-ghost use Rattle.listing.specs.Lines.{lines_of, left, left_by, message_text, of_message, whole_text, listing};
+ghost use Rattle.listing.specs.Lines.{fault, lines_of, left, left_by, message_text, of_message, whole_text, listing};
 ghost use Rattle.listing.specs.Said.{said_text};
 
 use answers::Answers;
@@ -43,6 +43,13 @@ pub fn write_answers(answers: &[Answer], out: &mut Line<'_>) -> Result<(), Full>
     ensures { Appends out.old (whole_text (map said_text (map said answers.now))) result out.new }
 {
     out.push(&Answers { answers })
+}
+
+/// Appends the two lines of a refusal, or refuses and changes nothing.
+pub fn write_fault(told: Told, out: &mut Line<'_>) -> Result<(), Full>
+    ensures { Appends out.old (whole_text (lines_of (fault told))) result out.new }
+{
+    out.push(&Refused { told })
 }
 
 /// Appends the listing of a message by a sheet, or refuses and changes nothing in the line. The pieces stand
@@ -141,6 +148,7 @@ pub fn list(bytes: &[u8], out: &mut Line<'_>) -> Result<(), Full>
     ensures value { Appended out.old (listing 256 512 bytes.now) result out.new }
     ensures lender { out.new.places.ghost_name ≡ out.old.places.ghost_name }
     ensures fits { length (listing 256 512 bytes.now) ≤ LISTING_MAX }
+    ensures max { LISTING_MAX ≡ 262144 }
 {
     let mut table = [Row::BLANK; MAX_ROWS];
     let mut pieces = [Piece::blank(); PIECES_MAX];

@@ -32,10 +32,15 @@ climbed [] k = unknown
 climbed (p ∷ ps) zero = Ok p
 climbed (p ∷ ps) (suc k) = climbed ps k
 
--- the piece placed with a path
+-- a value, or another where there is none
+abbrev pub or_else : {V : Type 0} → Outcome V → Outcome V → Outcome V
+or_else (Ok v) other = Ok v
+or_else (Err e) other = other
+
+-- the piece placed with a path, the last if there were several; the pieces of a reading by a checked sheet all have different paths
 abbrev pub placed : List PieceSpec → Path → Outcome PieceSpec
 placed [] q = unknown
-placed (p ∷ ps) q = cond (same_path p.path q) (Ok p) (placed ps q)
+placed (p ∷ ps) q = or_else (placed ps q) (cond (same_path p.path q) (Ok p) unknown)
 
 -- the number that the first k cells write, most significant first, behind what was read so far
 abbrev pub unsigned : Number → ℕ → List Cell → Outcome Number

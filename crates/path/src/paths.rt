@@ -1,5 +1,5 @@
 // Paths: one step more, the front, the steps by number, and whether two are the same.
-ghost use Rattle.std.specs.Prelude.{◌≡◌, ℕ, ◌≤◌, [], ◌∷◌, ◌++◌, length, take, Decides, MatchOption};
+ghost use Rattle.std.specs.Prelude.{◌≡◌, ℕ, ◌-◌, ◌≤◌, [], ◌∷◌, ◌++◌, length, take, Decides, MatchOption, slice_set};
 ghost use Rattle.std.specs.List.{slice_get};
 ghost use Rattle.std.specs.Option.{option_map};
 ghost use Rattle.std.specs.Ordering.{on};
@@ -35,6 +35,16 @@ impl Path {
             steps,
             len: self.len + 1,
         })
+    }
+
+    /// Goes from the same place by another step: the last step is replaced, if there is one.
+    pub fn turn(&mut self, step: Step)
+        ensures { path_of self.new ≡ slice_set (path_of self.old) (length (path_of self.old) - 1) (step_of step) }
+    {
+        let len = self.len as usize;
+        if len > 0 {
+            self.steps[len - 1] = step;
+        }
     }
 
     /// The path of the first `n` steps, or all if there are no more.

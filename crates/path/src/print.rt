@@ -1,5 +1,5 @@
 // Paths in print: `root.pts[1]`.
-ghost use Rattle.std.specs.Prelude.{◌≤◌, length};
+ghost use Rattle.std.specs.Prelude.{◌≡◌, ◌≤◌, length};
 ghost use Rattle.line.specs.Fills.{Appends};
 ghost use Rattle.path.specs.Meaning.{path_of, step_of};
 ghost use Rattle.path.specs.Printed.{printed, step_text};
@@ -12,6 +12,10 @@ impl Text for Step {
     ghost text = { λ s. step_text (step_of s) };
 
     ghost longest = { λ s. 17 };
+
+    fn most(&self) -> Option<usize> {
+        None
+    }
 
     #[tactic(auto, using(crate::proofs::Prints::each_short))]
     fn write<W: Sink>(&self, out: &mut W) {
@@ -35,6 +39,11 @@ impl Text for Path {
     ghost longest = { λ p. 140 };
 
     #[tactic(auto, using(crate::proofs::Prints::path_short))]
+    fn most(&self) -> Option<usize> {
+        Some(PRINTED_MAX)
+    }
+
+    #[tactic(auto, using(crate::proofs::Prints::path_short))]
     fn write<W: Sink>(&self, out: &mut W) {
         out.text(b"root");
         for step in self.in_use() {
@@ -47,6 +56,7 @@ impl Path {
     /// Appends the path in print, or refuses and changes nothing.
     pub fn print(&self, line: &mut Line<'_>) -> Result<(), Full>
         ensures short { length (printed (path_of self.now)) ≤ PRINTED_MAX }
+        ensures max { PRINTED_MAX ≡ 140 }
         ensures value { Appends line.old (printed (path_of self.now)) result line.new }
     {
         line.push(self)

@@ -16,6 +16,8 @@ use Rattle.path.specs.declared.Path.{Path}
 use Rattle.path.specs.declared.Piece.{Piece}
 use Rattle.meaning.specs.Terms.{PieceSpec, piece_of, pieces_of}
 use Rattle.meaning.specs.Values.{Outcome, unknown, placed}
+use Rattle.meaning.specs.Values as values
+use Rattle.list.specs.Contents.{or_else}
 use Rattle.evaluate.specs.Evaluated.{as_piece}
 use Rattle.reading.specs.States.{named}
 
@@ -27,10 +29,10 @@ ReadAs text q = (ds : List Downward) → LawfulPath ds → printed ds ≡ text �
 unnamed : (xs : List Piece) (text : List ℕ) → ReadAs text None → named (pieces_of xs) text ≡ None
 unnamed [] text h = refl
 unnamed (x ∷ xs) text h =
-    cond-false (bytes_eq (printed (path_of x.path)) text) (Some (piece_of x)) (named (pieces_of xs) text)
+    ap (λ o. or_else o (cond (bytes_eq (printed (path_of x.path)) text) (Some (piece_of x)) None)) (unnamed xs text h)
+    ∙ cond-false (bytes_eq (printed (path_of x.path)) text) (Some (piece_of x)) None
     (false_from_ne_true (bytes_eq (printed (path_of x.path)) text)
     (λ e. let f = h (path_of x.path) (lawful_path x.path) ((bytes_eq-Decides (printed (path_of x.path)) text).0 e) in cc))
-    ∙ unnamed xs text h
 
 pub unnamed_first : (n : ℕ) (ps : List Piece) (text : List ℕ) → ReadAs text None → None ≡ named (take n (pieces_of ps)) text
 unnamed_first n ps text h = sym (ap (λ (T : List PieceSpec). named T text) (take-map piece_of n ps) ∙ unnamed (take n ps) text h)
@@ -54,11 +56,14 @@ placed_named : (xs : List Piece) (text : List ℕ) (q : List Downward) → print
     → placed (pieces_of xs) q ≡ or_unknown (named (pieces_of xs) text)
 placed_named [] text q e h = refl
 placed_named (x ∷ xs) text q e h =
-    ap (λ (b : Bool). cond b (Ok (piece_of x)) (placed (pieces_of xs) q)) (same_test x text q e h)
-    ∙ ap (λ (o : Outcome PieceSpec). cond (bytes_eq (printed (path_of x.path)) text) (Ok (piece_of x)) o) (placed_named xs text q e h)
-    ∙ (elim (bytes_eq (printed (path_of x.path)) text)
-    as (λ (b : Bool). cond b (Ok (piece_of x)) (or_unknown (named (pieces_of xs) text)) ≡ or_unknown (cond b (Some (piece_of x)) (named (pieces_of xs) text)))
-    [ true ↦ refl | false ↦ refl ])
+    ap (λ (b : Bool). values.or_else (placed (pieces_of xs) q) (cond b (Ok (piece_of x)) unknown)) (same_test x text q e h)
+    ∙ go (named (pieces_of xs) text) (bytes_eq (printed (path_of x.path)) text) (placed_named xs text q e h)
+  where
+    go : (r : Option PieceSpec) (b : Bool) → placed (pieces_of xs) q ≡ or_unknown r
+        → values.or_else (placed (pieces_of xs) q) (cond b (Ok (piece_of x)) unknown) ≡ or_unknown (or_else r (cond b (Some (piece_of x)) None))
+    go (Some y) b f = ap (λ o. values.or_else o (cond b (Ok (piece_of x)) unknown)) f
+    go None true f = ap (λ o. values.or_else o (Ok (piece_of x))) f
+    go None false f = ap (λ o. values.or_else o unknown) f
 
 ok_piece : (r : Outcome Piece) (o : Option PieceSpec) → as_piece r ≡ or_unknown o → option_map piece_of (result_ok r) ≡ o
 ok_piece (Ok p) None e = absurd (let z : ◌≡◌ {A = ℕ} 0 1 = cc in cc)

@@ -2,7 +2,7 @@
 use Rattle.std.specs.Prelude.{◌≡◌, ℕ, List, [], take, Some, None, Option}
 use Rattle.std.specs.Str.{bytes_eq}
 use Rattle.cells.specs.declared.cell.Cell.{Cell}
-use Rattle.list.specs.Contents.{first_of}
+use Rattle.list.specs.Contents.{last_of}
 use Rattle.path.specs.Printed.{printed}
 use Rattle.path.specs.declared.Piece.{Piece}
 use Rattle.sheet_text.specs.declared.row.Row.{Row}
@@ -38,6 +38,6 @@ SettledBy text rows cells (Some n) ps = Reads text rows cells (take n ps)
 abbrev pub Settled : List ℕ → List Row → State → Type 0
 Settled text rows s = SettledBy text rows s.cells s.laid s.entries
 
--- the piece with a path in print, the first if there are several
+-- the piece with a path in print, the last if there are several
 abbrev pub named : List PieceSpec → List ℕ → Option PieceSpec
-named T path = first_of (λ p. bytes_eq (printed p.path) path) T
+named T path = last_of (λ p. bytes_eq (printed p.path) path) T

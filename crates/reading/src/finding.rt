@@ -19,7 +19,7 @@ use evaluate::lookup::find_piece;
 use list::BoundedList;
 use path::{Path, Piece};
 
-// The first of the kept pieces that has the path.
+// The last of the kept pieces that has the path.
 fn kept_piece(pieces: &mut [Piece], count: usize, path: &[u8]) -> Option<Piece>
     ensures value { option_map piece_of result ≡ named (take count (pieces_of pieces.old)) path.now }
     ensures same { pieces.new ≡ pieces.old }

@@ -9,3 +9,4 @@ pub mod Idling
 pub mod Marking
 pub mod Ends
 pub mod Passing
+pub mod Elements

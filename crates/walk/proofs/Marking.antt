@@ -102,17 +102,6 @@ module _ (text : List ℕ) (rows : List Row) where
       other_type_mark type.Arr e p q = absurd (q refl)
       other_type_mark type.Alt e p q = sym (word_here (word.Type type.Alt) e ∙ ap idle (is_alt text rows ok r x here e).0)
 
-      other_word : (w : Word) → ¬ (w ≡ word.Field) → ((v : TypeWord) → ¬ (w ≡ word.Type v)) → idle_as text rows w r ≡ false
-      other_word word.Field p q = absurd (p refl)
-      other_word (word.Type v) p q = absurd (q v refl)
-      other_word (word.Number w) p q = refl
-      other_word (word.Truth w) p q = refl
-      other_word word.From p q = refl
-      other_word (word.Step w) p q = refl
-
-      pub other_mark : ¬ (x.word ≡ word.Field) → ((v : TypeWord) → ¬ (x.word ≡ word.Type v)) → false ≡ idle_row text rows r
-      other_mark p q = sym (word_here x.word refl ∙ other_word x.word p q)
-
       pub fld_mark : r < length rows → x.word ≡ word.Field → (get_or marks (target x.one) false && mark_of marks (ref_of x.two)) ≡ idle_row text rows r
       fld_mark h e =
           let l = leads_as text rows ok r x here word.Field e in

@@ -1,11 +1,11 @@
 -- The next of the kept pieces.
-use Rattle.std.proofs.Common.{◌≡◌, ℕ, ◌<◌, ◌≤◌, true, false, ◌==◌, List, [], ◌∷◌, ◌++◌, length, take, Some, ap, ◌∙◌, arith, length-take}
+use Rattle.std.proofs.Common.{◌≡◌, ℕ, ◌<◌, true, ◌==◌, List, [], ◌∷◌, ◌++◌, length, take, Some, ap, ◌∙◌}
 use Rattle.std.specs.List.{slice_get}
 use Rattle.std.specs.Option.{option_map}
 use Rattle.std.proofs.lemmas.Bool.{and_parts, eqb-true}
 use Rattle.std.proofs.lemmas.List.{length-map, map_push}
-use Rattle.std.proofs.lemmas.Option.{slice_get-map, slice_get_past}
-use Rattle.list.proofs.Fronts.{nth_take, nth_take_past}
+use Rattle.std.proofs.lemmas.Option.{slice_get-map}
+use Rattle.list.proofs.Fronts.{nth_take}
 use Rattle.path.specs.declared.Piece.{Piece}
 use Rattle.path.specs.Equal.{path_decides}
 use Rattle.path.specs.Meaning.{same_path}
@@ -29,12 +29,6 @@ module _ (kept n : ℕ) (xs ps : List Piece) (counted : length ps ≡ n) (p : Pi
   next =
       ap (λ k. is_piece (slice_get (pieces_of (take kept xs)) k) p) (length-map ps piece_of ∙ counted)
       ∙ ap (λ o. is_piece o p) (slice_get-map piece_of (take kept xs) n)
-
-  pub none_kept : kept ≤ n → follows (kept_of kept xs) (pieces_of ps) p ≡ false
-  none_kept h = next ∙ ap (λ o. is_piece (option_map piece_of o) p) (nth_take_past kept xs n h)
-
-  pub none_there : length xs ≤ n → follows (kept_of kept xs) (pieces_of ps) p ≡ false
-  none_there h = next ∙ ap (λ o. is_piece (option_map piece_of o) p) (slice_get_past (take kept xs) n (omega (arith, length-take kept xs)))
 
   pub next_kept : (x : Piece) → n < kept → slice_get xs n ≡ Some x → follows (kept_of kept xs) (pieces_of ps) p ≡ same_piece (piece_of x) p
   next_kept x h e = next ∙ ap (λ o. is_piece (option_map piece_of o) p) (nth_take kept xs n h ∙ e)

@@ -15,7 +15,7 @@ use Rattle.laws.proofs.Prefix.{total_append}
 use Rattle.walk.specs.Frames.{Open, in_front, in_array, through, resume}
 use Rattle.walk.specs.Turns.{turns, TypeRow, AllShallow}
 use Rattle.walk.specs.Idle.{idle, Marked}
-use Rattle.walk.specs.Walks.{StandsIn, Turned, Parts, Reached}
+use Rattle.walk.specs.Walks.{StandsIn, Turned, Reached}
 use Rattle.walk.proofs.Idling.{none_repeated, idle_type}
 use Rattle.walk.proofs.Marking.{type_mark}
 
@@ -66,9 +66,6 @@ module _ (text : List ℕ) (rows : List Row) (cells : List Cell) (takes : List P
 
   pub turn_refused : (e : Open) (f : Fault) (r : ℕ) → through text rows cells takes e A ≡ refused f r A → resume text rows cells takes (e ∷ K) A ≡ refused f r A
   turn_refused e f r s = ap (λ x. x onward resume text rows cells takes K) s
-
-  pub parts_turned : (L M : List Open) → Parts text rows L M → Turned text rows cells takes L A M A
-  parts_turned L M p = record { same = p.same cells takes A; shallow = p.shallow; fewer = p.fewer }
 
 -- a base row that is taken
 module _ (flag : ℕ → Bool) (cells : List Cell) (takes : List PieceSpec → PieceSpec → Bool) (P : Path) (r : ℕ) (w : Base) (A B : List PieceSpec) (p : PieceSpec)

@@ -1,6 +1,7 @@
 // One walk over the open rows of a sheet, whatever the source, and whatever is done with a base row.
 #![tactic(auto)]
 
+mod bases;
 pub mod comparing;
 mod fault;
 mod frames;

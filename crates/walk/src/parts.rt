@@ -42,7 +42,7 @@ fn field_step(text: &[u8], name: Column) -> Step
 }
 
 // Into an element.
-fn element_step(index: u16) -> Step
+pub(crate) fn element_step(index: u16) -> Step
     requires { index < 65535 }
     ensures { step_of result ≡ element index }
 {

@@ -29,7 +29,7 @@ use evaluate::evaluation::Evaluation;
 use evaluate::rows::{ref_in, row_at};
 use list::BoundedList;
 use opened::Opened;
-use path::Piece;
+use path::{Path, Piece};
 use sheet::{CheckedSheet, target};
 use sheet_text::{Base, Row, TypeWord, Word};
 
@@ -148,10 +148,10 @@ impl<S: Source, P: Placer> Walker<'_, '_, '_, S, P> {
     }
 
     // A base row becomes a piece, unless it would pass the end or is not taken. Answers the place reached.
-    fn put(
+    pub(crate) fn put(
         &self,
         pieces: &mut BoundedList<'_, Piece>,
-        here: Opened,
+        path: Path,
         row: usize,
         base: Base,
         place: usize,
@@ -159,9 +159,9 @@ impl<S: Source, P: Placer> Walker<'_, '_, '_, S, P> {
         requires row { row < 65536 }
         requires reached { Reached (placed_of pieces.now) (length (S.Source.cells self.now.source.now)) place }
         ensures outcome { MatchResult result
-            (λ q. ((flag : ℕ → Bool) → put_piece flag (S.Source.cells self.now.source.now) (P.Placer.takes self.now.placer.now (backing pieces.old)) (path_of here.path) row base (placed_of pieces.old) ≡ accepted (placed_of pieces.new))
+            (λ q. ((flag : ℕ → Bool) → put_piece flag (S.Source.cells self.now.source.now) (P.Placer.takes self.now.placer.now (backing pieces.old)) (path_of path) row base (placed_of pieces.old) ≡ accepted (placed_of pieces.new))
             × Reached (placed_of pieces.new) (length (S.Source.cells self.now.source.now)) q)
-            (λ e. ((flag : ℕ → Bool) → put_piece flag (S.Source.cells self.now.source.now) (P.Placer.takes self.now.placer.now (backing pieces.old)) (path_of here.path) row base (placed_of pieces.old) ≡ refused (lay_fault e) row (placed_of pieces.old))
+            (λ e. ((flag : ℕ → Bool) → put_piece flag (S.Source.cells self.now.source.now) (P.Placer.takes self.now.placer.now (backing pieces.old)) (path_of path) row base (placed_of pieces.old) ≡ refused (lay_fault e) row (placed_of pieces.old))
             × (placed_of pieces.new ≡ placed_of pieces.old)) }
         ensures keeps { Keeps (P.Placer.takes self.now.placer.now) (P.Placer.leaves self.now.placer.now) pieces.old pieces.new }
     {
@@ -170,7 +170,7 @@ impl<S: Source, P: Placer> Walker<'_, '_, '_, S, P> {
             return Err(LayFault::PastEnd);
         }
         let piece = Piece {
-            path: here.path(),
+            path,
             row: row as u16,
             place: place as u16,
             width,
@@ -213,7 +213,7 @@ impl<S: Source, P: Placer> Walker<'_, '_, '_, S, P> {
             return Err(LayFault::Void);
         };
         if let TypeWord::Base(base) = word {
-            return self.put(pieces, here, row, base, place);
+            return self.put(pieces, here.path(), row, base, place);
         }
         let frame = self.stand_in(pieces, here, row, r, word)?;
         push(frames, frame);

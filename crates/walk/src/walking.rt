@@ -1,16 +1,17 @@
 // The walk: the open rows are worked off, the innermost first.
-ghost use Rattle.std.specs.Prelude.{◌≡◌, ◌≤◌, List, [], ◌∷◌, length};
+ghost use Rattle.std.specs.Prelude.{◌≡◌, ◌-◌, ◌≤◌, List, [], ◌∷◌, length};
 ghost use Rattle.list.specs.Contents.{backing, contents, room};
 ghost use Rattle.path.specs.Meaning.{path_of};
 ghost use Rattle.opened.specs.Opens.{records_of};
 ghost use Rattle.sheet.specs.Sheets.{rows_of, text_of};
 ghost use Rattle.meaning.specs.Terms.{pieces_of};
-ghost use Rattle.walk.specs.Frames.{in_front, frame_of, open_of, placed_of, resume};
+ghost use Rattle.walk.specs.Frames.{in_array, in_front, frame_of, open_of, placed_of, resume};
 ghost use Rattle.walk.specs.Idle.{Marked};
 ghost use Rattle.walk.specs.Placers.{Keeps};
 ghost use Rattle.walk.specs.Turns.{AllShallow};
 ghost use Rattle.walk.specs.Walks.{Ends, Reached, TurnEnds, walked};
 
+use crate::bases::base_at;
 use crate::fault::Halt;
 use crate::frames::{Frame, pop, push};
 use crate::idle::{idle_rows, is_marked};
@@ -55,6 +56,32 @@ impl<S: Source, P: Placer> Walker<'_, '_, '_, S, P> {
         }
     }
 
+    // The next element of an array, and the array behind it; or all that are left, where they are of a base row.
+    fn next_elements(
+        &self,
+        pieces: &mut BoundedList<'_, Piece>,
+        frames: &mut BoundedList<'_, Frame>,
+        here: Opened,
+        element: usize,
+        index: u16,
+        count: u16,
+        place: usize,
+    ) -> Result<usize, Halt>
+        requires shallow { AllShallow (text_of self.now.sheet.now) (rows_of self.now.sheet.now) (in_array (path_of here.path) (records_of here) element index (count - index) ∷ open_of frames.now) }
+        requires room { 10 ≤ room frames.now }
+        requires reached { Reached (placed_of pieces.now) (length (S.Source.cells self.now.source.now)) place }
+        ensures outcome { TurnEnds self.now.sheet.now (S.Source.cells self.now.source.now) (P.Placer.takes self.now.placer.now (backing pieces.old))
+            (in_array (path_of here.path) (records_of here) element index (count - index) ∷ open_of frames.old) (placed_of pieces.old) (open_of frames.new) (placed_of pieces.new) result }
+        ensures keeps { Keeps (P.Placer.takes self.now.placer.now) (P.Placer.leaves self.now.placer.now) pieces.old pieces.new }
+        ensures room { room frames.new ≡ room frames.old }
+    {
+        let Some(base) = base_at(self.sheet, element) else {
+            next_element(self.sheet, frames, here, element, index, count);
+            return Ok(place);
+        };
+        self.bases(pieces, here.path(), element, base, index, count, place)
+    }
+
     // One turn: the innermost open row gives way to its parts. Answers the place reached.
     fn turn(
         &self,
@@ -87,8 +114,7 @@ impl<S: Source, P: Placer> Walker<'_, '_, '_, S, P> {
                 if is_marked(self.idle, element) {
                     return Ok(place);
                 }
-                next_element(self.sheet, frames, here, element, index, count);
-                Ok(place)
+                self.next_elements(pieces, frames, here, element, index, count, place)
             }
         }
     }

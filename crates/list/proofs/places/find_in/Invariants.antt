@@ -1,9 +1,14 @@
-use Rattle.std.proofs.Common.{◌≡◌, take, drop}
-use Rattle.list.specs.Contents.{first_of}
+use Rattle.std.proofs.Common.{◌≡◌, ◌≤◌, length, take, drop, None}
+use Rattle.list.specs.Contents.{last_of}
 use Rattle.list.proofs.places.find_in.Given as goal
 
--- the entries before this one do not pass
-abbrev pub invariant-loop-entry : goal.invariant-loop-entry
-invariant-loop-entry g l =
-    first_of (g.P.Test.holds l.test) (drop l.entry-index l.entry-items)
-    ≡ first_of (g.P.Test.holds l.test) (take l.fn.count l.fn.entries)
+-- the entries from this one on do not pass
+abbrev pub invariant-loop-i : goal.invariant-loop-i
+invariant-loop-i g l =
+    record {
+      inside : l.i ≤ length (take l.fn.count l.fn.entries);
+      none : last_of (g.P.Test.holds l.test) (drop l.i (take l.fn.count l.fn.entries)) ≡ None;
+    }
+
+abbrev pub decreases-loop-i : goal.decreases-loop-i
+decreases-loop-i g l = l.i

@@ -2,6 +2,7 @@ use Rattle.std.proofs.Common.{◌≡◌, ◌∷◌, length, refl, sym, ap, ◌�
 use Rattle.std.proofs.lemmas.Result.{MatchResult-weaker}
 use Rattle.list.specs.Contents.{backing}
 use Rattle.path.specs.Meaning.{path_of}
+use Rattle.path.specs.declared.Path.{Path}
 use Rattle.sheet.specs.Sheets.{rows_of, text_of}
 use Rattle.sheet.proofs.Lawful.{few_rows}
 use Rattle.sheet_text.specs.declared.word.TypeWord.{TypeWord}
@@ -9,7 +10,7 @@ use Rattle.sheet_text.specs.declared.word.Word.TheVariants as words
 use Rattle.sheet_text.specs.declared.word.TypeWord.TheVariants as type
 use Rattle.opened.specs.Opens.{records_of}
 use Rattle.meaning.specs.Stands.{is_bool}
-use Rattle.meaning.specs.Matcher.{opened_void, refused}
+use Rattle.meaning.specs.Matcher.{opened_void, put_piece, refused}
 use Rattle.walk.specs.Faults.{lay_fault}
 use Rattle.walk.specs.Frames.{in_front, frame_of, open_of, placed_of}
 use Rattle.walk.specs.Walks.{Turned, Reached}
@@ -62,7 +63,8 @@ returns-in-Base-clause-outcome g c =
     let O = records_of c.args.here in
     let K = open_of c.args.frames.now in
     let is : c.row_at-r.result.word ≡ words.Type (type.Base c.in-Base.base) = c.in-Type.is ∙ ap (λ (w : TypeWord). words.Type w) c.in-Base.is in
-    let base = front_base (text_of s) (rows_of s) s.ok c.args.row c.row_at-r.result c.row_at-r.ensures cs takes P O (placed_of l) c.in-Base.base is in
+    let base = front_base (text_of s) (rows_of s) s.ok c.args.row c.row_at-r.result c.row_at-r.ensures cs takes P O (placed_of l) c.in-Base.base is
+    ∙ ap (λ (p : Path). put_piece (is_bool (rows_of s)) cs takes (path_of p) c.args.row c.in-Base.base (placed_of l)) (sym c.path.ensures) in
     MatchResult-weaker c.put.result c.put.ensures.outcome
     (λ q h. (base_turned (text_of s) (rows_of s) cs takes K (placed_of l) P O c.args.row B c.requires.shallow (base ∙ h.0 (is_bool (rows_of s))), h.1))
     (λ e h. (

@@ -1,4 +1,4 @@
-use Rattle.std.proofs.Common.{◌≡◌, ◌+◌, ◌≤◌, ◌++◌, ◌∷◌, [], true, length, sym, ap, subst, arith}
+use Rattle.std.proofs.Common.{◌≡◌, ◌+◌, ◌≤◌, ◌++◌, ◌∷◌, [], true, length, sym, subst, arith}
 use Rattle.list.specs.Contents.{backing}
 use Rattle.path.specs.Meaning.{path_of}
 use Rattle.sheet_text.specs.Table.{width_of}
@@ -15,12 +15,11 @@ returns-clause-outcome g c =
     let takes = g.P.Placer.takes c.args.self.now.placer.now (backing c.args.pieces.now) in
     let A = placed_of c.args.pieces.now in
     let B = placed_of c.place.new.pieces in
-    let P = path_of c.args.here.path in
+    let P = path_of c.args.path in
     let w = c.args.base in
-    let p : PieceSpec = record { path = path_of c.path.result; row = c.args.row; place = c.args.place; width = c.width-width.result } in
-    let path : path_of c.path.result ≡ P = ap path_of c.path.ensures in
+    let p : PieceSpec = record { path = P; row = c.args.row; place = c.args.place; width = c.width-width.result } in
     let is : p ≡ piece_at A P c.args.row w
-    = (λ i. record { path = path i; row = c.args.row; place = c.requires.reached.placed i; width = c.width-width.ensures.is i }) in
+    = (λ i. record { path = P; row = c.args.row; place = c.requires.reached.placed i; width = c.width-width.ensures.is i }) in
     let more : B ≡ A ++ p ∷ [] = c.if-not-place.ensures.pieces in
     let inside : c.args.place + width_of w ≤ length cs = omega arith in
     let fits : total A + width_of w ≤ length cs = omega arith in
