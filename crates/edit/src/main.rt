@@ -1,6 +1,7 @@
 // Edits a message by its sheet. Reads a sheet, an empty line, a message in hexadecimal digits, an empty line,
 // and a script with one call in each line. Makes the calls on the message, prints a line for each answer, and
-// then the listing of the message as it is then.
+// then the listing of the message as it is then. With arguments it does so for each file that they name, behind a
+// line with its name; `-` names standard input.
 #![tactic(auto)]
 
 use anyhow::Context;
@@ -16,6 +17,7 @@ use script::{calls_of, push_bytes, put_bytes};
 use sheet::{CheckedSheet, read_sheet};
 use sheet_text::{MAX_ROWS, Row};
 use std::io::{Read, Write};
+use std::{env, fs};
 
 mod script;
 
@@ -86,8 +88,32 @@ fn edit_input(rt: &HostRuntime, bytes: &[u8]) -> anyhow::Result<()> {
     edit(rt, &sheet, &mut store, calls.as_slice())
 }
 
-fn main(rt: HostRuntime) -> anyhow::Result<()> {
+// Edits what standard input has.
+fn edit_stdin(rt: &HostRuntime) -> anyhow::Result<()> {
     let mut bytes = Vec::new(rt.alloc());
     rt.stdin().take(INPUT_MAX as u64).read_to_end(&mut bytes)?;
-    edit_input(&rt, bytes.as_slice())
+    edit_input(rt, bytes.as_slice())
+}
+
+// Edits what a file has, or prints that it can't: its message or script is wrong, or there is no memory.
+fn edit_file(rt: &HostRuntime, name: &str) -> anyhow::Result<()> {
+    let bytes = fs::read(rt, name)?;
+    if edit_input(rt, bytes.as_slice()).is_err() {
+        println!(rt; "error")?;
+    }
+    Ok(())
+}
+
+fn main(rt: HostRuntime) -> anyhow::Result<()> {
+    if env::args(&rt)?.len() < 2 {
+        return edit_stdin(&rt);
+    }
+    for name in env::args(&rt)?.skip(1) {
+        println!(rt; "== {name}")?;
+        match name.as_str() {
+            "-" => edit_stdin(&rt)?,
+            file => edit_file(&rt, file)?,
+        }
+    }
+    Ok(())
 }

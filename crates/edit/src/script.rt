@@ -1,5 +1,5 @@
 // Scripts: one call in each line.
-use anyhow::{Context, bail};
+use anyhow::bail;
 use cells::capture::Capture;
 use cells::source::Source;
 use reading::Call;
@@ -64,11 +64,14 @@ pub(crate) fn calls_of<'c>(
 ) -> anyhow::Result<Vec<Call<'c>>> {
     let mut calls = Vec::new(rt.alloc());
     let mut rest = bytes;
-    for text in script.split(|b| *b == b'\n') {
+    for (i, text) in script.split(|b| *b == b'\n').enumerate() {
         if text.is_empty() {
             continue;
         }
-        let call = match Spoken::read(text).context("a line of the script is no call")? {
+        let Some(spoken) = Spoken::read(text) else {
+            bail!("line {} of the script is no call", i + 1);
+        };
+        let call = match spoken {
             Spoken::Lay => Call::Lay,
             Spoken::Find(path) => Call::Find(path),
             Spoken::Put(path, digits) => {
