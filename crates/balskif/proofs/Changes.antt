@@ -19,12 +19,17 @@ use Rattle.laws.specs.Rereads.{reread}
 use Rattle.reading.specs.Outcomes.{or_no_piece, put_as, with_piece}
 use Rattle.reading.specs.Refusals.{no_reading, wrong_width}
 use Rattle.reading.specs.States.{named}
-use Rattle.balskif.specs.Calls.{Altered, Puts, itself, put_after, put_by, put_told, number_of}
-use Rattle.balskif.specs.Puts.{PutsCells, PutEnds, PutLeaves}
+use Rattle.balskif.specs.Calls.{Altered, Puts, Stated, itself, put_after, put_by, put_told, number_of}
+use Rattle.balskif.specs.Puts.{PutsCells, PutEnds}
 use Rattle.balskif.specs.Sheets.{IsSheet}
 use Rattle.balskif.proofs.Bytes.{cells_tell, cells_of_put, spares_of_put}
 use Rattle.balskif.proofs.Inside.{named_inside}
 use Rattle.balskif.proofs.Reading.{some_number}
+
+-- the same in a message of bytes, by the text of a sheet
+abbrev pub PutLeaves : List ℕ → List ℕ → ℕ → List ℕ → List ℕ → List ℕ → Result (Unit {0}) Told → Type 0
+PutLeaves text message room path value after (Ok u) = (rows : List Row) × (Stated text rows × Puts text rows room message path value after)
+PutLeaves text message room path value after (Err t) = (after ≡ message) × ((rows : List Row) (other : List ℕ) → Stated text rows → ¬ Puts text rows room message path value other)
 
 -- no refusal has the number 0
 abbrev NotZero : {X : Type 0} → Answer X → Type 0

@@ -7,7 +7,6 @@ use Rattle.sheet_text.specs.declared.row.Row.{Row}
 use Rattle.meaning.specs.Terms.{PieceSpec}
 use Rattle.meaning.specs.Readings.{Reads}
 use Rattle.reading.specs.States.{named}
-use Rattle.balskif.specs.Calls.{Puts, Stated}
 
 -- the cells have a reading that fits the list, a piece of it has the path and the width of the value, and the cells
 -- with the value in that piece's place have the same reading
@@ -25,8 +24,3 @@ pub record PutsCells (text : List ℕ) (rows : List Row) (room : ℕ) (cells : L
 abbrev pub PutEnds : List ℕ → List Row → ℕ → List Cell → List ℕ → List ℕ → List Cell → Result (Unit {0}) Told → Type 0
 PutEnds text rows room cells path value after (Ok u) = PutsCells text rows room cells path value after
 PutEnds text rows room cells path value after (Err t) = (after ≡ cells) × ((other : List Cell) → ¬ PutsCells text rows room cells path value other)
-
--- the same in a message of bytes, by the text of a sheet
-abbrev pub PutLeaves : List ℕ → List ℕ → ℕ → List ℕ → List ℕ → List ℕ → Result (Unit {0}) Told → Type 0
-PutLeaves text message room path value after (Ok u) = (rows : List Row) × (Stated text rows × Puts text rows room message path value after)
-PutLeaves text message room path value after (Err t) = (after ≡ message) × ((rows : List Row) (other : List ℕ) → Stated text rows → ¬ Puts text rows room message path value other)

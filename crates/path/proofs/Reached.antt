@@ -1,7 +1,7 @@
 -- How far a text has been read as a path.
-use Rattle.std.proofs.Common.{◌≡◌, ℕ, ◌+◌, ◌<◌, ◌≤◌, List, [], ◌∷◌, ◌++◌, length, take, drop, codes, sym, refl, ap, ◌∙◌, append_assoc, append-nil, arith, length-append}
+use Rattle.std.proofs.Common.{◌≡◌, ℕ, ◌+◌, ◌<◌, List, [], ◌∷◌, ◌++◌, length, take, drop, codes, sym, refl, ap, ◌∙◌, append_assoc, append-nil, arith}
 use Rattle.std.specs.List.{AllByRecursion, flat_map, position_or_len}
-use Rattle.std.proofs.lemmas.List.{append_cancel_left, flat_map_more, take-append-drop}
+use Rattle.std.proofs.lemmas.List.{flat_map_more, take-append-drop}
 use Rattle.path.specs.Lawful.{Lawful, LawfulPath}
 use Rattle.path.specs.Meaning.{Downward, field, element}
 use Rattle.path.specs.Printed.{step_text, printed, leads}
@@ -39,13 +39,6 @@ pub record Tail (rest : List ℕ) (ps ds : List Downward) : Type 0 where
 pub record Reached (text rest : List ℕ) (ps : List Downward) : Type 0 where
   pub cut : printed ps ++ rest ≡ text
   pub tails : (ds : List Downward) → AllByRecursion Lawful ds → printed ds ≡ text → Tail rest ps ds
-
-pub reached_start : (text rest : List ℕ) → codes "root" ++ rest ≡ text → Reached text rest []
-reached_start text rest e =
-    record {
-      cut = e;
-      tails = λ ds l p. record { steps = ds; whole = refl; lawful = l; prints = append_cancel_left (codes "root") (flat_map step_text ds) rest (p ∙ sym e) };
-    }
 
 some_text : (t : Downward) (ts : List Downward) → 0 < length (flat_map step_text (t ∷ ts))
 some_text (field n) ts = omega arith
@@ -91,10 +84,3 @@ module _ (text rest : List ℕ) (ps : List Downward) (r : Reached text rest ps) 
         let t = r.tails ds l.each p in
         let n = next rest some t.steps t.lawful t.prints in
         never n.step n.lawful.0 (sym n.front)
-
-    -- it would be one too many
-    pub reached_full : 8 ≤ length ps → (ds : List Downward) → LawfulPath ds → printed ds ≡ text → ⊥
-    reached_full h ds l p =
-        let t = r.tails ds l.each p in
-        let n = next rest some t.steps t.lawful t.prints in
-        omega (arith, l.few, ap length t.whole, length-append ps t.steps, ap length n.whole)

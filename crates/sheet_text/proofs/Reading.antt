@@ -1,5 +1,5 @@
 -- What a turn of the loop over the lines keeps.
-use Rattle.std.proofs.Common.{◌≡◌, ℕ, zero, suc, ◌+◌, ◌-◌, ◌<◌, ◌≤◌, min, cond, List, [], ◌∷◌, ◌++◌, length, take, drop, set, Ok, Err, Result, sym, refl, ap, ◌∙◌, append_assoc, append-nil, arith, length-set, take-append-drop, le-leb}
+use Rattle.std.proofs.Common.{◌≡◌, ℕ, zero, suc, ◌+◌, ◌-◌, ◌<◌, ◌≤◌, min, cond, List, [], ◌∷◌, ◌++◌, length, take, drop, set, Ok, Err, Result, sym, ap, ◌∙◌, append_assoc, append-nil, arith, length-set, take-append-drop, le-leb}
 use borrow.Author.Tests.{lt-leb}
 use Rattle.std.proofs.lemmas.List.{drop-append-le, length-take-le, take_more_set, drop-set-lt, drop-drop}
 use Rattle.sheet_text.proofs.Counts.{lines_few}
@@ -33,18 +33,6 @@ pub record Going (text : List ℕ) (from : ℕ) (start table : List Row) (room a
   pub rows : take k table ++ (lines_from (room - k) text at k).rows ≡ (lines_from room text from 0).rows
   pub result : (lines_from (room - k) text at k).result ≡ (lines_from room text from 0).result
   pub later : drop k table ≡ drop k start
-
-pub begin : (text : List ℕ) (from : ℕ) (table : List Row) (room : ℕ) → room ≤ length table → from ≤ length text → Going text from table table room from 0
-begin text from table room l h =
-    let same : room - 0 ≡ room = omega arith in
-    record {
-      fits = omega arith;
-      long = l;
-      within = h;
-      rows = ap (λ r. (lines_from r text from 0).rows) same;
-      result = ap (λ r. (lines_from r text from 0).result) same;
-      later = refl;
-    }
 
 module _ {text : List ℕ} {from : ℕ} {start table : List Row} {room at k : ℕ} (g : Going text from start table room at k) where
   pub closed : (x : Result ℕ SheetRefusal) → lines_from (room - k) text at k ≡ record { rows = []; result = x } → (x ≡ (lines_from room text from 0).result) × (table ≡ laid (lines_from room text from 0).rows start)

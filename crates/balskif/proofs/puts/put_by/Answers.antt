@@ -3,8 +3,8 @@ use Rattle.cells.specs.Cells.{byte_cells, byte_spares}
 use Rattle.sheet.specs.Sheets.{rows_of, text_of}
 use Rattle.told.specs.Answers.{as_told}
 use Rattle.balskif.specs.Calls.{Altered, itself, number_of, put_told}
-use Rattle.balskif.specs.Puts.{PutEnds, PutLeaves}
-use Rattle.balskif.proofs.Changes.{altered_is, leaves_bytes}
+use Rattle.balskif.specs.Puts.{PutEnds}
+use Rattle.balskif.proofs.Changes.{PutLeaves, altered_is, leaves_bytes}
 use Rattle.balskif.proofs.puts.put_by.Goals as goal
 
 -- the store stands on the bytes that were lent to it, so that they end as it leaves them
