@@ -1,5 +1,5 @@
 -- What the cells of a piece write.
-use Rattle.std.specs.Prelude.{min, Bool, List, Ok}
+use Rattle.std.specs.Prelude.{Bool, List, Ok}
 use Rattle.cells.specs.declared.cell.Cell.{Cell}
 use Rattle.path.specs.declared.Piece.{Piece}
 use Rattle.meaning.specs.Terms.{Number, piece_of}
@@ -12,11 +12,3 @@ value_of cells p = content cells (piece_of p) then limited
 -- as a truth
 abbrev pub truth_of : List Cell → Piece → Outcome Bool
 truth_of cells p = content cells (piece_of p) then λ n. Ok (is_true n)
-
--- a number held at 2^63, above which none has a value
-abbrev pub held : Number → Number
-held n = min n 0x8000_0000_0000_0000
-
--- the number, so held
-abbrev pub held_value : List Cell → Piece → Outcome Number
-held_value cells p = content cells (piece_of p) then λ n. Ok (held n)

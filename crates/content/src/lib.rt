@@ -1,9 +1,11 @@
 // Numbers: sums and products, and what the cells of a piece write.
 #![tactic(auto)]
 
-ghost use Rattle.std.specs.Prelude.{◌≡◌, ◌+◌, ◌*◌, ◌≤◌, MatchOption};
-ghost use Rattle.meaning.specs.Values.{limited, unknown};
-ghost use Rattle.content.specs.Content.{held, held_value, value_of, truth_of};
+ghost use Rattle.std.specs.Prelude.{◌≡◌, ◌+◌, ◌*◌, ◌≤◌, Err, MatchOption};
+ghost use Rattle.meaning.specs.Terms.{piece_of};
+ghost use Rattle.meaning.specs.Values.{content, limited};
+ghost use Rattle.meaning.specs.declared.fault.EvalFault.TheVariants as faults;
+ghost use Rattle.content.specs.Content.{value_of, truth_of};
 
 use cells::source::Source;
 use meaning::EvalFault;
@@ -12,9 +14,9 @@ use sheet_text::LIMIT;
 
 // The number, if there is one and it is not above the limit.
 fn within(n: Option<u64>) -> Result<u64, EvalFault>
-    ensures { MatchOption n (result ≡ unknown) (λ m. result ≡ limited m) }
+    ensures { MatchOption n (result ≡ Err faults.Limit) (λ m. result ≡ limited m) }
 {
-    n.filter(|m| *m <= LIMIT).ok_or(EvalFault::NoValue)
+    n.filter(|m| *m <= LIMIT).ok_or(EvalFault::Limit)
 }
 
 /// The sum of two numbers.
@@ -31,24 +33,15 @@ pub fn product(a: u64, b: u64) -> Result<u64, EvalFault>
     within(a.checked_mul(b))
 }
 
-// One byte more, held just above the limit.
-fn grown(n: u64, b: u8) -> u64
-    ensures { result ≡ held (n * 256 + b) }
-{
-    n.saturating_mul(256)
-        .saturating_add(u64::from(b))
-        .min(LIMIT + 1)
-}
-
-// The bytes of a piece as an unsigned number, most significant first, held just above the limit.
+// The bytes of a piece as an unsigned number, most significant first: at most 8, so it fits.
 fn digits<S: Source>(source: &S, piece: &Piece) -> Result<u64, EvalFault>
-    ensures { result ≡ held_value (S.Source.cells source.now) piece.now }
+    ensures { result ≡ content (S.Source.cells source.now) (piece_of piece.now) }
 {
     let place = usize::from(piece.place);
     let mut n = 0;
     // A source has no slice to go over: it is read place by place.
     for k in place..place + usize::from(piece.width) {
-        n = grown(n, source.read(k)?);
+        n = n * 256 + u64::from(source.read(k)?);
     }
     Ok(n)
 }

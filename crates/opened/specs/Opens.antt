@@ -1,8 +1,6 @@
 -- The open records: fronts of the path that is being laid, innermost first.
-use Rattle.std.specs.Prelude.{ℕ, zero, suc, List, [], ◌∷◌, take, Some, None, Ok, Option, slice_index}
-use Rattle.path.specs.declared.Path.{Path}
+use Rattle.std.specs.Prelude.{ℕ, zero, suc, List, [], ◌∷◌, take, slice_index}
 use Rattle.path.specs.Meaning.{Downward, path_of}
-use Rattle.meaning.specs.Values.{Outcome, unknown}
 use Rattle.opened.specs.declared.Opened.{Opened}
 
 -- the fronts whose lengths are the first n of those given, the last of them first
@@ -12,7 +10,3 @@ fronts P lens (suc n) = take (slice_index lens n) P ∷ fronts P lens n
 
 abbrev pub records_of : Opened → List (List Downward)
 records_of o = fronts (path_of o.path) o.lens o.count
-
-abbrev pub as_path : Option Path → Outcome (List Downward)
-as_path None = unknown
-as_path (Some p) = Ok (path_of p)

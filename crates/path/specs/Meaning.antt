@@ -27,12 +27,10 @@ path_of p = map step_of (take p.len p.steps)
 -- equal steps, a field's by its name, and equal paths
 abbrev pub same_step : Downward → Downward → Bool
 same_step (field m) (field n) = bytes_eq m n
-same_step (field m) (element j) = false
-same_step (element i) (field n) = false
 same_step (element i) (element j) = i == j
+same_step _ _ = false
 
 abbrev pub same_path : List Downward → List Downward → Bool
 same_path [] [] = true
-same_path [] (y ∷ ys) = false
-same_path (x ∷ xs) [] = false
 same_path (x ∷ xs) (y ∷ ys) = cond (same_step x y) (same_path xs ys) false
+same_path _ _ = false

@@ -21,8 +21,8 @@ pub const PRINTED_MAX: usize = 140;
 /// How many bytes of memory a piece takes.
 pub const PIECE_SIZE: usize = size_of::<Piece>();
 
-/// The name of a field: the first `len` of the bytes. Names and paths stand whole in pieces, which are
-/// copied into lists that callers lend; so they have fixed memory, and no heap text.
+/// The name of a field: the first `len` of the bytes. Names and paths stand whole in pieces, which
+/// are copied into lists that callers lend; so they have fixed memory, and no heap text.
 #[derive(Clone, Copy)]
 pub struct Name {
     bytes: [u8; 16],
@@ -38,8 +38,8 @@ pub struct Element {
     ghost small: { number ≤ 65534 },
 }
 
-/// One step of a path: into a field of a record or into an element of an array. Neither is a failure, so
-/// it is an enum of its own and no Result.
+/// One step of a path: into a field of a record or into an element of an array. Neither is a
+/// failure, so it is an enum of its own and no Result.
 #[derive(Clone, Copy)]
 pub enum Step {
     Field(Name),
@@ -62,4 +62,5 @@ pub struct Piece {
     pub row: u16,
     pub place: u16,
     pub width: u8,
+    ghost narrow: { width ≤ 8 },
 }

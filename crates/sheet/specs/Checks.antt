@@ -1,11 +1,14 @@
 -- The rules that the rows of a sheet keep.
-use Rattle.std.specs.Prelude.{◌≡◌, ℕ, ◌+◌, ◌-◌, ◌<◌, Bool, true, false, cond, ◌&&◌, ◌||◌, List, [], ◌∷◌, length, take, drop, Some, None, Option, ◌==◌, nat_le, nat_lt, slice_index_or}
+use Rattle.std.specs.Prelude.{◌≡◌, ℕ, ◌+◌, ◌-◌, ◌<◌, Bool, true, false, cond, ◌&&◌, ◌||◌, List, []}
+use Rattle.std.specs.Prelude.{◌∷◌, length, take, drop, Some, None, Option, ◌==◌, nat_le, nat_lt}
+use Rattle.std.specs.Prelude.{slice_index_or, unwrap_or}
 use Rattle.sheet.specs.Rules.{family_of, rule_of}
 use Rattle.sheet.specs.declared.rule.Family.{Family}
 use Rattle.sheet.specs.declared.rule.Family.TheVariants as family
 use Rattle.sheet.specs.declared.rule.Need.{Need}
 use Rattle.sheet.specs.declared.rule.Need.TheVariants as need
 use Rattle.sheet_text.specs.Chars.{is_name}
+use Rattle.sheet_text.specs.Columns.{number_in}
 use Rattle.sheet_text.specs.declared.row.Row.{Row}
 use Rattle.sheet_text.specs.declared.row.Span.{Span}
 use Rattle.sheet_text.specs.declared.row.Column.{Column}
@@ -27,22 +30,32 @@ same_family a b = rank a == rank b
 
 -- what stands for a row past the last: void
 abbrev pub no_row : Row
-no_row = record { word = word.Type type.Void; name = column.Blank; one = column.Blank; two = column.Blank; three = column.Blank }
+no_row =
+    record {
+      word = word.Type type.Void;
+      name = column.Blank;
+      one = column.Blank;
+      two = column.Blank;
+      three = column.Blank;
+    }
+
+-- the row with a number; past the last row, void
+abbrev pub row_at : List Row → ℕ → Row
+row_at rows k = slice_index_or rows k no_row
 
 abbrev pub word_at : List Row → ℕ → Word
-word_at rows k = (slice_index_or rows k no_row).word
+word_at rows k = (row_at rows k).word
 
 -- a column of row k that names a later row of the family
 abbrev pub refers : List Row → ℕ → Family → Column → Bool
-refers rows k f (column.Number n) = nat_lt k n && (nat_lt n (length rows) && same_family (family_of (word_at rows n)) f)
+refers rows k f (column.Number n) =
+    nat_lt k n && (nat_lt n (length rows) && same_family (family_of (word_at rows n)) f)
 refers rows k f (column.Name s) = false
 refers rows k f column.Blank = false
 
 -- the row that a column names, where it names one
 abbrev pub target : Column → ℕ
-target (column.Number n) = n
-target (column.Name s) = 0
-target column.Blank = 0
+target c = unwrap_or (number_in c) 0
 
 abbrev pub is_blank : Column → Bool
 is_blank column.Blank = true
@@ -51,7 +64,8 @@ is_blank (column.Name s) = false
 
 -- a part of the text that is a name
 abbrev pub names_part : List ℕ → Span → Bool
-names_part text s = nat_le s.at (length text) && (nat_le s.len (length text - s.at) && is_name (take s.len (drop s.at text)))
+names_part text s = nat_le s.at (length text) &&
+    (nat_le s.len (length text - s.at) && is_name (take s.len (drop s.at text)))
 
 abbrev pub is_named : List ℕ → Column → Bool
 is_named text column.Blank = false
@@ -93,4 +107,5 @@ first_failing p k (r ∷ rs) = cond (p k r) (first_failing p (k + 1) rs) (Some k
 
 -- at each row, what is given for the row is what p says of it
 abbrev pub Tests : (ℕ → Row → Bool → Type 0) → (ℕ → Row → Bool) → List Row → Type 0
-Tests gives p rows = (k : ℕ) → k < length rows → (b : Bool) → gives k (slice_index_or rows k no_row) b → b ≡ p k (slice_index_or rows k no_row)
+Tests gives p rows = (k : ℕ) → k < length rows → (b : Bool)
+    → gives k (row_at rows k) b → b ≡ p k (row_at rows k)

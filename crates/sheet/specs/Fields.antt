@@ -1,7 +1,8 @@
 -- The names of a record's fields.
-use Rattle.std.specs.Prelude.{ℕ, zero, suc, Bool, true, false, cond, not, ◌&&◌, ◌||◌, List, [], ◌∷◌, length, take, drop, Some, None, Option, nat_lt, slice_index_or}
+use Rattle.std.specs.Prelude.{ℕ, zero, suc, Bool, true, false, cond, not, ◌&&◌, ◌||◌, List, [], ◌∷◌}
+use Rattle.std.specs.Prelude.{length, take, drop, Some, None, Option, nat_lt}
 use Rattle.std.specs.Str.{bytes_eq}
-use Rattle.sheet.specs.Checks.{no_row}
+use Rattle.sheet.specs.Checks.{row_at}
 use Rattle.sheet_text.specs.declared.row.Row.{Row}
 use Rattle.sheet_text.specs.declared.row.Column.{Column}
 use Rattle.sheet_text.specs.declared.row.Column.TheVariants as column
@@ -17,7 +18,7 @@ name_in text column.Blank = []
 
 -- the row that a column names
 abbrev pub field_in : List Row → Column → Option Row
-field_in rows (column.Number n) = cond (nat_lt n (length rows)) (Some (slice_index_or rows n no_row)) None
+field_in rows (column.Number n) = cond (nat_lt n (length rows)) (Some (row_at rows n)) None
 field_in rows (column.Name s) = None
 field_in rows column.Blank = None
 
@@ -28,7 +29,8 @@ where_some (Some r) f = f r
 -- the names of the fields that a column begins, at most so many
 unfoldable pub chain_names : ℕ → List ℕ → List Row → Column → List (List ℕ)
 chain_names zero text rows c = []
-chain_names (suc n) text rows c = where_some (field_in rows c) (λ f. name_in text f.name ∷ chain_names n text rows f.two)
+chain_names (suc n) text rows c = where_some (field_in rows c)
+    (λ f. name_in text f.name ∷ chain_names n text rows f.two)
 
 abbrev pub member : List ℕ → List (List ℕ) → Bool
 member x [] = false
@@ -52,4 +54,5 @@ is_record (word.Step w) = false
 
 -- the fields of a record have different names
 abbrev pub fields_differ : List ℕ → List Row → Row → Bool
-fields_differ text rows r = not (is_record r.word) || distinct (chain_names (length rows) text rows r.one)
+fields_differ text rows r = not (is_record r.word) || distinct
+    (chain_names (length rows) text rows r.one)

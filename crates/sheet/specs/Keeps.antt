@@ -1,5 +1,6 @@
 -- The rules of a sheet, each said by itself.
-use Rattle.std.specs.Prelude.{◌≡◌, ℕ, zero, suc, ◌+◌, ◌-◌, ◌^◌, ◌<◌, ◌≤◌, ◌⊎◌, List, length, take, drop, ◌≢◌, slice_index_or}
+use Rattle.std.specs.Prelude.{◌≡◌, ℕ, zero, suc, ◌+◌, ◌-◌, ◌^◌, ◌<◌, ◌≤◌, ◌⊎◌, List, length, take}
+use Rattle.std.specs.Prelude.{drop, ◌≢◌}
 use Rattle.sheet_text.specs.Plain.{ProperName}
 use Rattle.sheet_text.specs.declared.row.Row.{Row}
 use Rattle.sheet_text.specs.declared.row.Span.{Span}
@@ -8,7 +9,7 @@ use Rattle.sheet_text.specs.declared.row.Column.TheVariants as column
 use Rattle.sheet_text.specs.declared.word.Word.TheVariants as word
 use Rattle.sheet_text.specs.declared.word.TypeWord.TheVariants as type
 use Rattle.sheet.specs.Rules.{family_of, rule_of}
-use Rattle.sheet.specs.Checks.{no_row, word_at}
+use Rattle.sheet.specs.Checks.{word_at, row_at}
 use Rattle.sheet.specs.Fields.{name_in}
 use Rattle.sheet.specs.Nests.{Depth}
 use Rattle.sheet.specs.declared.rule.Family.{Family}
@@ -54,22 +55,26 @@ pub record AsAsked (text : List ℕ) (rows : List Row) (k : ℕ) (r : Row) : Typ
 -- row a is field i, counted from 0, of those that a column begins
 abbrev pub FieldAt : List Row → Column → ℕ → ℕ → Type 0
 FieldAt rows c zero a = (c ≡ column.Number a) × (a < length rows)
-FieldAt rows c (suc i) a = (b : ℕ) × ((c ≡ column.Number b) × (b < length rows) × FieldAt rows (slice_index_or rows b no_row).two i a)
+FieldAt rows c (suc i) a = (b : ℕ)
+    × ((c ≡ column.Number b) × (b < length rows) × FieldAt rows (row_at rows b).two i a)
 
 -- the name of a row
 abbrev pub name_at : List ℕ → List Row → ℕ → List ℕ
-name_at text rows a = name_in text (slice_index_or rows a no_row).name
+name_at text rows a = name_in text (row_at rows a).name
 
 -- no two fields of the record in row k have one name
 abbrev pub NamesDiffer : List ℕ → List Row → ℕ → Type 0
 NamesDiffer text rows k =
-    (i j a b : ℕ) → i < j → FieldAt rows (slice_index_or rows k no_row).one i a → FieldAt rows (slice_index_or rows k no_row).one j b → name_at text rows a ≢ name_at text rows b
+    (i j a b : ℕ) → i < j → FieldAt rows (row_at rows k).one i a
+    → FieldAt rows (row_at rows k).one j b → name_at text rows a ≢ name_at text rows b
 
 -- rows over a text keep every rule of a sheet
 pub record Keeps (text : List ℕ) (rows : List Row) : Type 0 where
   pub some : 1 ≤ length rows
   pub few : length rows ≤ 256
   pub first : family_of (word_at rows 0) ≡ family.Type
-  pub columns : (k : ℕ) → k < length rows → AsAsked text rows k (slice_index_or rows k no_row)
-  pub names : (k : ℕ) → k < length rows → word_at rows k ≡ word.Type type.Rec → NamesDiffer text rows k
-  pub depths : (k : ℕ) → k < length rows → family_of (word_at rows k) ≡ family.Type → (d : ℕ) × (Depth rows k d × (d ≤ 8))
+  pub columns : (k : ℕ) → k < length rows → AsAsked text rows k (row_at rows k)
+  pub names : (k : ℕ) → k < length rows → word_at rows k ≡ word.Type type.Rec
+      → NamesDiffer text rows k
+  pub depths : (k : ℕ) → k < length rows → family_of (word_at rows k) ≡ family.Type
+      → (d : ℕ) × (Depth rows k d × (d ≤ 8))

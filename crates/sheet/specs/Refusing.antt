@@ -1,19 +1,20 @@
 -- What a refusal of rows says about them.
-use Rattle.std.specs.Prelude.{◌≡◌, ℕ, ◌+◌, ◌<◌, ◌≤◌, ◌⊎◌, List, length, slice_index_or}
+use Rattle.std.specs.Prelude.{◌≡◌, ℕ, ◌+◌, ◌<◌, ◌≤◌, ◌⊎◌, List, length}
 use Rattle.sheet_text.specs.declared.refusal.Reason.{Reason}
 use Rattle.sheet_text.specs.declared.refusal.Reason.TheVariants as reason
 use Rattle.sheet_text.specs.declared.row.Row.{Row}
 use Rattle.sheet_text.specs.declared.word.Word.TheVariants as word
 use Rattle.sheet_text.specs.declared.word.TypeWord.TheVariants as type
 use Rattle.sheet.specs.Rules.{family_of}
-use Rattle.sheet.specs.Checks.{no_row, word_at}
+use Rattle.sheet.specs.Checks.{word_at, row_at}
 use Rattle.sheet.specs.Nests.{Depth}
 use Rattle.sheet.specs.Keeps.{AsAsked, FieldAt, name_at}
 use Rattle.sheet.specs.declared.rule.Family.TheVariants as family
 
 -- row k keeps its word's rule, and is a type where it is the first
 abbrev pub KeepsRule : List ℕ → List Row → ℕ → Type 0
-KeepsRule text rows k = AsAsked text rows k (slice_index_or rows k no_row) × (k ≡ 0 → family_of (word_at rows k) ≡ family.Type)
+KeepsRule text rows k = AsAsked text rows k (row_at rows k)
+    × (k ≡ 0 → family_of (word_at rows k) ≡ family.Type)
 
 -- two fields of the record in row k have one name
 pub record NameTwice (text : List ℕ) (rows : List Row) (k : ℕ) : Type 0 where
@@ -23,8 +24,8 @@ pub record NameTwice (text : List ℕ) (rows : List Row) (k : ℕ) : Type 0 wher
   pub a : ℕ
   pub b : ℕ
   pub before : i < j
-  pub first : FieldAt rows (slice_index_or rows k no_row).one i a
-  pub second : FieldAt rows (slice_index_or rows k no_row).one j b
+  pub first : FieldAt rows (row_at rows k).one i a
+  pub second : FieldAt rows (row_at rows k).one j b
   pub same : name_at text rows a ≡ name_at text rows b
 
 -- row k is a type that is more than eight deep
@@ -59,8 +60,12 @@ abbrev pub Refused : List ℕ → List Row → Reason → ℕ → Type 0
 Refused text rows reason.Header line = ⊥
 Refused text rows reason.Line line = ⊥
 Refused text rows reason.Word line = ⊥
-Refused text rows reason.Count line = ((length rows ≡ 0) × (line ≡ 1)) ⊎ ((256 < length rows) × (line ≡ 258))
-Refused text rows reason.Column line = Counted rows × Lowest rows (λ k. KeepsRule text rows k → ⊥) line
-Refused text rows reason.Field line = Counted rows × AllKeepRules text rows × Lowest rows (NameTwice text rows) line
+Refused text rows reason.Count line =
+    ((length rows ≡ 0) × (line ≡ 1)) ⊎ ((256 < length rows) × (line ≡ 258))
+Refused text rows reason.Column line = Counted rows
+    × Lowest rows (λ k. KeepsRule text rows k → ⊥) line
+Refused text rows reason.Field line = Counted rows × AllKeepRules text rows
+    × Lowest rows (NameTwice text rows) line
 Refused text rows reason.Depth line =
-    Counted rows × AllKeepRules text rows × Nowhere rows (NameTwice text rows) × Lowest rows (TooDeep rows) line
+    Counted rows × AllKeepRules text rows × Nowhere rows (NameTwice text rows)
+    × Lowest rows (TooDeep rows) line

@@ -1,6 +1,7 @@
 -- The refusals of a sheet as they are told.
-use Rattle.std.specs.Prelude.{ℕ, ◌+◌, Some, None}
+use Rattle.std.specs.Prelude.{ℕ, ◌+◌, Some}
 use Rattle.told.specs.declared.Told.{Told}
+use Rattle.told.specs.Answers.{bare}
 use Rattle.sheet_text.specs.declared.refusal.Reason.{Reason}
 use Rattle.sheet_text.specs.declared.refusal.Reason.TheVariants as reason
 use Rattle.sheet_text.specs.declared.refusal.SheetRefusal.{SheetRefusal}
@@ -17,15 +18,7 @@ number_of reason.Depth = 7
 
 -- a refusal carries its line and nothing else
 abbrev pub sheet_told : SheetRefusal → Told
-sheet_told e = record {
-  number = number_of e.reason;
-  line = Some e.line;
-  row = None;
-  place = None;
-  pieces = None;
-  lost = None;
-  layers = None;
-}
+sheet_told e = record (bare (number_of e.reason)) { line = Some e.line }
 
 -- the refusal of the line that states row k
 abbrev pub at_row : Reason → ℕ → SheetRefusal

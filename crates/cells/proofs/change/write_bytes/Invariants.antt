@@ -1,9 +1,11 @@
-use Rattle.std.proofs.Common.{◌≡◌, take}
-use Rattle.cells.specs.Changed.{changed}
+use Rattle.std.proofs.Common.{◌≡◌, drop}
+use Rattle.cells.specs.Changed.{changed, changes_of}
 use Rattle.cells.proofs.change.write_bytes.Given as goal
 
--- the first bytes are written
-abbrev pub invariant-loop-i : goal.invariant-loop-i
-invariant-loop-i g l =
-    (g.S.Source.cells l.store ≡ changed (g.S.Source.cells l.initial.store) l.place (take l.i l.bytes))
-    × ((g.S.Store.spares l.store ≡ g.S.Store.spares l.initial.store) × (g.S.Store.fixed l.store ≡ g.S.Store.fixed l.initial.store))
+-- the rest of the changes makes of the cells what all of them make
+abbrev pub invariant-loop-change : goal.invariant-loop-change
+invariant-loop-change g l =
+    (changed (g.S.Source.cells l.store) (changes_of (drop l.change-index l.changes))
+    ≡ changed (g.S.Source.cells l.initial.store) (changes_of l.changes))
+    × ((g.S.Store.spares l.store ≡ g.S.Store.spares l.initial.store)
+    × (g.S.Store.fixed l.store ≡ g.S.Store.fixed l.initial.store))
