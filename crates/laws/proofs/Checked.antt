@@ -1,8 +1,9 @@
 -- The references of a checked sheet lead to later rows of the right families.
-use Rattle.std.proofs.Common.{◌≡◌, ℕ, ◌<◌, ◌≤◌, true, List, length, Some, None, Option, sym, subst, ⊎_elim}
+use Rattle.std.proofs.Common.{◌≡◌, ℕ, ◌<◌, ◌≤◌, true, List, length, Some, None, Option, sym, subst}
+use Rattle.std.proofs.Common.{⊎_elim}
 use lib.ListN.{get_or-eq_default}
 use Rattle.std.proofs.lemmas.Bool.{cases_lt}
-use Rattle.sheet.specs.Checks.{target, no_row}
+use Rattle.sheet.specs.Checks.{target, no_row, row_at}
 use Rattle.sheet.specs.Keeps.{LaterRow, Names, Holds, AsAsked}
 use Rattle.sheet.specs.Verdict.{lawful}
 use Rattle.sheet.specs.declared.rule.Family.{Family}
@@ -12,7 +13,8 @@ use Rattle.sheet_text.specs.declared.row.Row.{Row}
 use Rattle.sheet_text.specs.declared.row.Column.{Column}
 use Rattle.sheet_text.specs.declared.row.Column.TheVariants as column
 use Rattle.sheet.proofs.Keeping.{keeps}
-use Rattle.meaning.specs.Forward.{row_at, ref_of, BlankOrLater, Leads, LeadsOn, Forward}
+use Rattle.meaning.specs.Forward.{BlankOrLater, Leads, LeadsOn, Forward}
+use Rattle.sheet_text.specs.Columns.{number_in}
 
 module _ (text : List ℕ) (rows : List Row) (k : ℕ) where
   names : (f : Family) (c : Column) → Names rows k f c → LaterRow rows k f (target c)
@@ -30,15 +32,23 @@ module _ (text : List ℕ) (rows : List Row) (k : ℕ) where
       h
 
   leads_on : (r : Row) → AsAsked text rows k r → LeadsOn rows k r
-  leads_on r h = record { one = leads _ r.one h.one; two = leads _ r.two h.two; three = leads _ r.three h.three }
+  leads_on r h =
+      record {
+        one = leads _ r.one h.one;
+        two = leads _ r.two h.two;
+        three =
+            leads _ r.three h.three;
+      }
 
   nowhere : LeadsOn rows k no_row
   nowhere = record { one = tt; two = tt; three = tt }
 
 pub checked_forward : (text : List ℕ) (rows : List Row) → lawful text rows ≡ true → Forward rows
 checked_forward text rows ok r =
-    ⊎_elim (λ (h : r < length rows). leads_on text rows r (row_at rows r) ((keeps text rows ok).columns r h))
-    (λ (h : length rows ≤ r). subst (LeadsOn rows r) (sym (get_or-eq_default rows no_row h)) (nowhere text rows r))
+    ⊎_elim (λ (h : r < length rows).
+    leads_on text rows r (row_at rows r) ((keeps text rows ok).columns r h))
+    (λ (h : length rows ≤ r). subst (LeadsOn rows r) (sym (get_or-eq_default rows no_row h))
+    (nowhere text rows r))
     (cases_lt r (length rows))
 
 -- a reference that leads to a row of the family, or to none
@@ -46,7 +56,8 @@ abbrev pub NoneOrLater : List Row → ℕ → Family → Option ℕ → Type 0
 NoneOrLater rows k f None = Unit {0}
 NoneOrLater rows k f (Some n) = LaterRow rows k f n
 
-pub later_ref : (rows : List Row) (k : ℕ) (f : Family) (c : Column) → BlankOrLater rows k f c → NoneOrLater rows k f (ref_of c)
+pub later_ref : (rows : List Row) (k : ℕ) (f : Family) (c : Column) → BlankOrLater rows k f c
+    → NoneOrLater rows k f (number_in c)
 later_ref rows k f column.Blank h = tt
 later_ref rows k f (column.Number n) h = h
 later_ref rows k f (column.Name s) h = absurd h

@@ -1,7 +1,6 @@
 pub mod Checked
 pub mod Unfold
 pub mod Unique
-pub mod Taken
 pub mod Sound
 pub mod Complete
 pub mod Accepts
@@ -11,3 +10,6 @@ pub mod Nested
 pub mod Named
 pub mod Apart
 pub mod Naming
+pub mod Stops
+pub mod Locations
+pub mod Quiet

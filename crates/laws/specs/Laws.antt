@@ -8,29 +8,34 @@ use Rattle.sheet.specs.declared.rule.Family.TheVariants as family
 use Rattle.sheet_text.specs.declared.row.Row.{Row}
 use Rattle.meaning.specs.Terms.{PieceSpec, total}
 use Rattle.meaning.specs.Stands.{type_at}
-use Rattle.meaning.specs.Matcher.{accepted}
-use Rattle.meaning.specs.Readings.{Reads, matched}
+use Rattle.meaning.specs.declared.fault.LayFault.{LayFault}
+use Rattle.meaning.specs.Matcher.{accepted, refused}
+use Rattle.meaning.specs.Readings.{Reads}
+use Rattle.meaning.specs.Laying.{laid_in}
+use Rattle.laws.specs.Stops.{LayingStops}
 use Rattle.laws.specs.Unfolds.{Unfolds}
 use Rattle.laws.specs.Distinct.{Distinct}
 use Rattle.laws.specs.Nesting.{depth}
-
--- at most one list of pieces is a reading of a message by a sheet
-abbrev pub OneReading : Type 0
-OneReading =
-    (text : List ℕ) (rows : List Row) (cells : List Cell) (T U : List PieceSpec)
-    → Reads text rows cells T → Reads text rows cells U → T ≡ U
 
 -- the matcher accepts exactly when a reading exists and fits the list, and then with that reading
 abbrev pub AcceptsReadings : Type 0
 AcceptsReadings =
     (text : List ℕ) (rows : List Row) (cells : List Cell) (room : ℕ) (T : List PieceSpec)
-    → (matched text rows cells room ≡ accepted T) ↔ (Reads text rows cells T × (length T ≤ room))
+    → (laid_in text rows cells room ≡ accepted T) ↔ (Reads text rows cells T × (length T ≤ room))
+
+-- and it refuses exactly where laying stops, for that reason, at that row and with those pieces
+abbrev pub StopsDecide : Type 0
+StopsDecide =
+    (text : List ℕ) (rows : List Row) (cells : List Cell) (room : ℕ) (e : LayFault) (r : ℕ)
+    (A : List PieceSpec)
+    → (laid_in text rows cells room ≡ refused e r A) ↔ LayingStops text rows cells room A e r
 
 -- a reading of a message is the reading of each message that begins with the cells that it covers
 abbrev pub CoveredCellsDecide : Type 0
 CoveredCellsDecide =
     (text : List ℕ) (rows : List Row) (cells rest : List Cell) (T : List PieceSpec)
-    → Reads text rows cells T → (total T ≤ length cells) × Reads text rows (take (total T) cells ++ rest) T
+    → Reads text rows cells T → (total T ≤ length cells)
+    × Reads text rows (take (total T) cells ++ rest) T
 
 -- no two pieces of a reading by a checked sheet share a path
 abbrev pub PathsDiffer : Type 0
@@ -46,4 +51,5 @@ RowsUnfold = (text : List ℕ) (rows : List Row) → lawful text rows ≡ true �
 abbrev pub TypesShallow : Type 0
 TypesShallow =
     (text : List ℕ) (rows : List Row) → lawful text rows ≡ true
-    → (k : ℕ) → k < length rows → family_of (word_at rows k) ≡ family.Type → depth (type_at text rows k) ≤ 8
+    → (k : ℕ) → k < length rows → family_of (word_at rows k) ≡ family.Type
+    → depth (type_at text rows k) ≤ 8

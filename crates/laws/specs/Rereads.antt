@@ -1,11 +1,11 @@
 -- The matcher told to place nothing but some pieces.
-use Rattle.std.specs.Prelude.{◌≡◌, ℕ, Bool, true, false, ◌↔◌, List, [], length, ◌==◌}
+use Rattle.std.specs.Prelude.{◌≡◌, ℕ, Bool, true, false, ◌↔◌, List, length, ◌==◌}
 use Rattle.cells.specs.declared.cell.Cell.{Cell}
 use Rattle.sheet_text.specs.declared.row.Row.{Row}
 use Rattle.meaning.specs.Terms.{PieceSpec}
-use Rattle.meaning.specs.Stands.{type_at, is_bool}
-use Rattle.meaning.specs.Matcher.{Laid, accepted, refused, lay}
-use Rattle.meaning.specs.Kept.{follows}
+use Rattle.meaning.specs.Values.{over}
+use Rattle.meaning.specs.Bars.{only}
+use Rattle.meaning.specs.Matcher.{Laid, accepted, refused, matched}
 use Rattle.meaning.specs.Readings.{Reads}
 
 -- whether so many pieces were placed, and none refused
@@ -13,13 +13,10 @@ abbrev pub as_many : Laid → ℕ → Bool
 as_many (accepted B) n = length B == n
 as_many (refused e r B) n = false
 
--- what the matcher comes to where it may place only the pieces T
-abbrev pub retraced : List ℕ → List Row → List Cell → List PieceSpec → Laid
-retraced text rows cells T = lay (is_bool rows) cells (follows T) (type_at text rows 0) [] [] []
-
 -- whether it then places all of them
 abbrev pub reread : List ℕ → List Row → List Cell → List PieceSpec → Bool
-reread text rows cells T = as_many (retraced text rows cells T) (length T)
+reread text rows cells T = as_many (matched text rows (over rows cells) (only (length cells) T))
+    (length T)
 
 -- it does so exactly if they are a reading
 abbrev pub RereadDecides : Type 0

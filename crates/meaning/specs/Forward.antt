@@ -1,6 +1,6 @@
 -- Where the references of a row lead.
-use Rattle.std.specs.Prelude.{ℕ, List, Some, None, Option, slice_index_or}
-use Rattle.sheet.specs.Checks.{target, no_row}
+use Rattle.std.specs.Prelude.{ℕ, List}
+use Rattle.sheet.specs.Checks.{target, row_at}
 use Rattle.sheet.specs.Keeps.{LaterRow}
 use Rattle.sheet.specs.Rules.{rule_of}
 use Rattle.sheet.specs.declared.rule.Family.{Family}
@@ -9,16 +9,6 @@ use Rattle.sheet.specs.declared.rule.Need.TheVariants as need
 use Rattle.sheet_text.specs.declared.row.Row.{Row}
 use Rattle.sheet_text.specs.declared.row.Column.{Column}
 use Rattle.sheet_text.specs.declared.row.Column.TheVariants as column
-
--- the row with a number; past the last row, void
-abbrev pub row_at : List Row → ℕ → Row
-row_at rows r = slice_index_or rows r no_row
-
--- the row that a column names, if it names one
-abbrev pub ref_of : Column → Option ℕ
-ref_of column.Blank = None
-ref_of (column.Number n) = Some n
-ref_of (column.Name s) = None
 
 -- a column that is blank, or names a later row of the family
 abbrev pub BlankOrLater : List Row → ℕ → Family → Column → Type 0

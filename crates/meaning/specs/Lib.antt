@@ -4,6 +4,8 @@ pub mod Forward
 pub mod Stands
 pub mod Values
 pub mod Layouts
-pub mod Matcher
 pub mod Readings
 pub mod Kept
+pub mod Bars
+pub mod Matcher
+pub mod Laying

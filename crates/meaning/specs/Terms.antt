@@ -18,6 +18,9 @@ pub record PieceSpec : Type 0 where
   pub place : ℕ
   pub width : ℕ
 
+abbrev pub Pieces : Type 0
+Pieces = List PieceSpec
+
 -- the pieces that records of the program keep
 abbrev pub piece_of : Piece → PieceSpec
 piece_of p = record { path = path_of p.path; row = p.row; place = p.place; width = p.width }
@@ -34,12 +37,13 @@ total (p ∷ ps) = p.width + total ps
 abbrev pub Number : Type 0
 Number = ℕ
 
--- A row that is asked for as what it is not stands for a `no_...`, which has no value; no checked sheet asks for one.
+-- A row that is asked for as what it is not stands for a `no_...`, which has no value; no checked
+-- sheet asks for one.
 mutual
   -- numbers; a location is a climb and steps
   pub data Num : Type 0 where
     no_number : Num
-    lit : Number → Num
+    lit : ℕ → Num
     loc : ℕ → Steps → Num
     add mul : Num → Num → Num
 
