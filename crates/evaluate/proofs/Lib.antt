@@ -2,3 +2,4 @@ pub mod Reached
 pub mod Finding
 pub mod Measures
 pub mod Places
+pub mod Fars

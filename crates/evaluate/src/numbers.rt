@@ -4,21 +4,22 @@ ghost use Rattle.list.specs.Contents.{contents};
 ghost use Rattle.sheet.specs.Sheets.{rows_of};
 ghost use Rattle.meaning.specs.Forward.{LeadsOn};
 ghost use Rattle.evaluate.specs.Reaches.{reach_of, as_reach};
-ghost use Rattle.evaluate.specs.Evaluated.{as_piece, number_value, number_of_row, place_value, reach_value, reach_of_row};
+ghost use Rattle.evaluate.specs.Evaluated.{as_piece, number_value, number_of_row, place_value};
+ghost use Rattle.evaluate.specs.Evaluated.{reach_value, reach_of_row};
 
 use crate::evaluation::Evaluation;
 use crate::lookup::find_piece;
+use crate::message::Message;
 use crate::reach::{into_element, into_field};
 use crate::rows::{ref_in, row_at};
-use cells::source::Source;
-use content::{product, sum, value_of};
+use content::{product, sum};
 use list::BoundedList;
 use meaning::EvalFault;
 use path::{Path, Piece};
 use sheet::target;
 use sheet_text::{NumberWord, Row, StepWord, Word};
 
-impl<S: Source> Evaluation<'_, '_, '_, S> {
+impl<M: Message> Evaluation<'_, '_, '_, M> {
     // The value of a number row.
     #[cycle(numbers_and_locations)]
     pub(crate) fn number_at(
@@ -26,15 +27,16 @@ impl<S: Source> Evaluation<'_, '_, '_, S> {
         pieces: &mut BoundedList<'_, Piece>,
         row: usize,
     ) -> Result<u64, EvalFault>
-        ensures value { result ≡ number_value (S.Source.cells self.now.source.now) self.now.sheet.now pieces.old self.now.records.now row }
+        ensures value { result ≡ number_value (M.Message.meaning self.now.message.now)
+            self.now.sheet.now pieces.old self.now.records.now row }
         ensures same { pieces.new ≡ pieces.old }
     {
         self.number_by(pieces, row, row_at(self.sheet, row))
     }
 
-    // The value of a number row by its word and columns. Apart from `number_at`, as are the others whose names
-    // end in `by`, so that what the row refers to is said once, and each case is proved with no answer; `row` is
-    // there for the measure.
+    // The value of a number row by its word and columns. Apart from `number_at`, as are the others
+    // whose names end in `by`, so that what the row refers to is said once, and each case is proved
+    // with no answer; `row` is there for the measure.
     #[cycle(numbers_and_locations)]
     fn number_by(
         &self,
@@ -42,8 +44,10 @@ impl<S: Source> Evaluation<'_, '_, '_, S> {
         row: usize,
         r: Row,
     ) -> Result<u64, EvalFault>
-        requires { LeadsOn (rows_of self.now.sheet.now) row r }
-        ensures value { result ≡ number_of_row (S.Source.cells self.now.source.now) self.now.sheet.now pieces.old self.now.records.now r }
+        requires leads { LeadsOn (rows_of self.now.sheet.now) row r }
+        requires few { length (rows_of self.now.sheet.now) ≤ 256 }
+        ensures value { result ≡ number_of_row (M.Message.meaning self.now.message.now)
+            self.now.sheet.now pieces.old self.now.records.now r }
         ensures same { pieces.new ≡ pieces.old }
     {
         let Word::Number(word) = r.word else {
@@ -53,7 +57,7 @@ impl<S: Source> Evaluation<'_, '_, '_, S> {
             NumberWord::Lit => Ok(r.one.number().unwrap_or(0)),
             NumberWord::Loc => {
                 let piece = self.piece_at(pieces, target(r.one))?;
-                value_of(self.source, &piece)
+                self.message.number(&piece)
             }
             NumberWord::Add => {
                 let a = self.number_at(pieces, target(r.one))?;
@@ -75,7 +79,8 @@ impl<S: Source> Evaluation<'_, '_, '_, S> {
         pieces: &mut BoundedList<'_, Piece>,
         row: usize,
     ) -> Result<Piece, EvalFault>
-        ensures value { as_piece result ≡ place_value (S.Source.cells self.now.source.now) self.now.sheet.now pieces.old self.now.records.now row }
+        ensures value { as_piece result ≡ place_value (M.Message.meaning self.now.message.now)
+            self.now.sheet.now pieces.old self.now.records.now row }
         ensures same { pieces.new ≡ pieces.old }
     {
         let r = row_at(self.sheet, row);
@@ -98,7 +103,8 @@ impl<S: Source> Evaluation<'_, '_, '_, S> {
         row: Option<usize>,
         reach: Option<Path>,
     ) -> Result<Option<Path>, EvalFault>
-        ensures value { as_reach result ≡ reach_value (S.Source.cells self.now.source.now) self.now.sheet.now pieces.old self.now.records.now row (reach_of reach) }
+        ensures value { as_reach result ≡ reach_value (M.Message.meaning self.now.message.now)
+            self.now.sheet.now pieces.old self.now.records.now row (reach_of reach) }
         ensures same { pieces.new ≡ pieces.old }
     {
         let Some(at) = row else {
@@ -116,8 +122,10 @@ impl<S: Source> Evaluation<'_, '_, '_, S> {
         r: Row,
         reach: Option<Path>,
     ) -> Result<Option<Path>, EvalFault>
-        requires { LeadsOn (rows_of self.now.sheet.now) row r }
-        ensures value { as_reach result ≡ reach_of_row (S.Source.cells self.now.source.now) self.now.sheet.now pieces.old self.now.records.now r (reach_of reach) }
+        requires leads { LeadsOn (rows_of self.now.sheet.now) row r }
+        requires few { length (rows_of self.now.sheet.now) ≤ 256 }
+        ensures value { as_reach result ≡ reach_of_row (M.Message.meaning self.now.message.now)
+            self.now.sheet.now pieces.old self.now.records.now r (reach_of reach) }
         ensures same { pieces.new ≡ pieces.old }
     {
         let Word::Step(word) = r.word else {

@@ -5,8 +5,8 @@ pub mod Turning
 pub mod Keeping
 pub mod Running
 pub mod Roots
-pub mod Idling
-pub mod Marking
 pub mod Ends
 pub mod Passing
 pub mod Elements
+pub mod Quieting
+pub mod Louder

@@ -2,5 +2,5 @@ pub mod Faults
 pub mod Placers
 pub mod Frames
 pub mod Turns
-pub mod Idle
+pub mod Quieted
 pub mod Walks

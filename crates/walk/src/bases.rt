@@ -1,15 +1,12 @@
 // Arrays of base rows: a piece for each element, with no row opened in between.
-ghost use Rattle.std.specs.Prelude.{◌≡◌, ℕ, ◌-◌, ◌<◌, Bool, List, [], ◌∷◌, ◌++◌, length, MatchOption, MatchResult};
-ghost use Rattle.cells.specs.declared.cell.Cell.{Cell};
+ghost use Rattle.std.specs.Prelude.{◌≡◌, ℕ, ◌-◌, ◌<◌, Bool, List, [], ◌∷◌, ◌++◌, length, Some};
+ghost use Rattle.std.specs.Prelude.{MatchResult};
 ghost use Rattle.list.specs.Contents.{backing};
 ghost use Rattle.path.specs.Meaning.{path_of, element};
 ghost use Rattle.sheet.specs.Sheets.{rows_of, text_of};
-ghost use Rattle.sheet_text.specs.declared.word.Word.TheVariants as words;
-ghost use Rattle.sheet_text.specs.declared.word.TypeWord.TheVariants as type_words;
 ghost use Rattle.meaning.specs.Terms.{Path as Steps};
-ghost use Rattle.meaning.specs.Forward.{row_at};
+ghost use Rattle.meaning.specs.Stands.{base_at};
 ghost use Rattle.meaning.specs.Matcher.{accepted, refused};
-ghost use Rattle.walk.specs.Faults.{lay_fault};
 ghost use Rattle.walk.specs.Frames.{in_array, placed_of, through};
 ghost use Rattle.walk.specs.Placers.{Keeps};
 ghost use Rattle.walk.specs.Walks.{Reached};
@@ -18,22 +15,10 @@ use crate::fault::Halt;
 use crate::parts::element_step;
 use crate::placer::Placer;
 use crate::walker::Walker;
-use cells::source::Source;
-use evaluate::rows::row_at;
+use evaluate::message::Message;
 use list::BoundedList;
 use path::{Path, Piece};
-use sheet::CheckedSheet;
-use sheet_text::{Base, TypeWord, Word};
-
-// The word of a base row.
-pub(crate) fn base_at(sheet: &CheckedSheet<'_, '_>, row: usize) -> Option<Base>
-    ensures { MatchOption result (Unit {0}) (λ b. (row_at (rows_of sheet.now) row).word ≡ words.Type (type_words.Base b)) }
-{
-    match row_at(sheet, row).word {
-        Word::Type(TypeWord::Base(base)) => Some(base),
-        _ => None,
-    }
-}
+use sheet_text::Base;
 
 // The path of an element.
 fn element_path(here: Path, index: u16) -> Path
@@ -47,8 +32,9 @@ fn element_path(here: Path, index: u16) -> Path
     there
 }
 
-impl<S: Source, P: Placer> Walker<'_, '_, '_, S, P> {
-    // The elements of an array from one on become pieces, or one of them stops the walk. Answers the place reached.
+impl<M: Message, P: Placer> Walker<'_, '_, '_, M, P> {
+    // The elements of an array from one on become pieces, or one of them stops the walk. Answers
+    // the place reached.
     pub(crate) fn bases(
         &self,
         pieces: &mut BoundedList<'_, Piece>,
@@ -60,17 +46,27 @@ impl<S: Source, P: Placer> Walker<'_, '_, '_, S, P> {
         start: usize,
     ) -> Result<usize, Halt>
         requires row { row < 65536 }
-        requires word { (row_at (rows_of self.now.sheet.now) row).word ≡ words.Type (type_words.Base base) }
+        requires word { base_at (rows_of self.now.sheet.now) row ≡ Some base }
         requires short { length (path_of here) < 8 }
-        requires reached { Reached (placed_of pieces.now) (length (S.Source.cells self.now.source.now)) start }
+        requires reached { Reached (placed_of pieces.now) start }
         ensures outcome { MatchResult result
-            (λ q. ((O : List Steps) → through (text_of self.now.sheet.now) (rows_of self.now.sheet.now) (S.Source.cells self.now.source.now) (P.Placer.takes self.now.placer.now (backing pieces.old))
-            (in_array (path_of here) O row index (count - index)) (placed_of pieces.old) ≡ accepted (placed_of pieces.new))
-            × Reached (placed_of pieces.new) (length (S.Source.cells self.now.source.now)) q)
-            (λ e. ((O : List Steps) → through (text_of self.now.sheet.now) (rows_of self.now.sheet.now) (S.Source.cells self.now.source.now) (P.Placer.takes self.now.placer.now (backing pieces.old))
-            (in_array (path_of here) O row index (count - index)) (placed_of pieces.old) ≡ refused (lay_fault e.fault) e.row (placed_of pieces.new))
-            × Reached (placed_of pieces.new) (length (S.Source.cells self.now.source.now)) e.place) }
-        ensures keeps { Keeps (P.Placer.takes self.now.placer.now) (P.Placer.leaves self.now.placer.now) pieces.old pieces.new }
+            (λ q. ((O : List Steps)
+            → through (text_of self.now.sheet.now) (rows_of self.now.sheet.now)
+            (M.Message.meaning self.now.message.now)
+            (P.Placer.bars self.now.placer.now (backing pieces.old))
+            (in_array (path_of here) O row index (count - index)) (placed_of pieces.old)
+            ≡ accepted (placed_of pieces.new))
+            × Reached (placed_of pieces.new) q)
+            (λ e. ((O : List Steps)
+            → through (text_of self.now.sheet.now) (rows_of self.now.sheet.now)
+            (M.Message.meaning self.now.message.now)
+            (P.Placer.bars self.now.placer.now (backing pieces.old))
+            (in_array (path_of here) O row index (count - index)) (placed_of pieces.old)
+            ≡ refused e.fault e.row (placed_of pieces.new))
+            × Reached (placed_of pieces.new) e.place) }
+        ensures keeps { Keeps (P.Placer.bars self.now.placer.now)
+            (P.Placer.leaves self.now.placer.now)
+            pieces.old pieces.new }
     {
         let mut place = start;
         let mut there = element_path(here, 0);

@@ -40,7 +40,8 @@ pub(crate) fn push(frames: &mut BoundedList<'_, Frame>, frame: Frame)
 
 // The innermost open row, taken off.
 pub(crate) fn pop(frames: &mut BoundedList<'_, Frame>) -> Option<Frame>
-    ensures open { MatchOption result (open_of frames.old ≡ []) (λ f. open_of frames.old ≡ frame_of f ∷ open_of frames.new) }
+    ensures open { MatchOption result ((open_of frames.old ≡ []) × (open_of frames.new ≡ []))
+        (λ f. open_of frames.old ≡ frame_of f ∷ open_of frames.new) }
     ensures room { room frames.new ≡ room frames.old }
 {
     frames.pop()

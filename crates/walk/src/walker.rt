@@ -1,6 +1,5 @@
 // What a row in front comes to.
-ghost use Rattle.std.specs.Prelude.{◌≡◌, ℕ, ◌+◌, ◌<◌, ◌≤◌, Bool, List, ◌∷◌, length, cond, MatchResult};
-ghost use Rattle.cells.specs.declared.cell.Cell.{Cell};
+ghost use Rattle.std.specs.Prelude.{◌≡◌, ℕ, ◌+◌, ◌<◌, ◌≤◌, ◌∷◌, length, cond, MatchResult};
 ghost use Rattle.list.specs.Contents.{backing, contents, room};
 ghost use Rattle.path.specs.Meaning.{path_of};
 ghost use Rattle.opened.specs.Opens.{records_of};
@@ -8,37 +7,33 @@ ghost use Rattle.sheet.specs.Sheets.{rows_of, text_of};
 ghost use Rattle.sheet_text.specs.declared.word.Base.{Base as BaseWord};
 ghost use Rattle.sheet_text.specs.declared.word.Word.TheVariants as words;
 ghost use Rattle.sheet_text.specs.declared.word.TypeWord.TheVariants as type_words;
-ghost use Rattle.meaning.specs.Terms.{PieceSpec};
-ghost use Rattle.meaning.specs.Forward.{row_at};
-ghost use Rattle.meaning.specs.Stands.{is_bool};
+ghost use Rattle.sheet.specs.Checks.{row_at};
+ghost use Rattle.meaning.specs.Bars.{Bars};
+ghost use Rattle.meaning.specs.Values.{elements_of};
 ghost use Rattle.meaning.specs.Matcher.{accepted, refused, put_piece};
 ghost use Rattle.evaluate.specs.Evaluated.{number_value, truth_value};
-ghost use Rattle.walk.specs.Faults.{lay_fault};
 ghost use Rattle.walk.specs.Frames.{in_front, frame_of, open_of, placed_of, through, resume};
-ghost use Rattle.walk.specs.Idle.{Marked};
 ghost use Rattle.walk.specs.Placers.{Keeps};
 ghost use Rattle.walk.specs.Turns.{Shallow, AllShallow};
-ghost use Rattle.walk.specs.Walks.{as_fault, known, counted, Reached, StandsIn, Turned};
+ghost use Rattle.walk.specs.Walks.{needed_value, counted, Reached, StandsIn, Turned};
 
-use crate::fault::LayFault;
 use crate::frames::{Frame, push};
-use crate::idle::is_marked;
 use crate::placer::Placer;
-use cells::source::Source;
 use evaluate::evaluation::Evaluation;
+use evaluate::message::Message;
 use evaluate::rows::{ref_in, row_at};
 use list::BoundedList;
+use meaning::LayFault;
 use opened::Opened;
 use path::{Path, Piece};
 use sheet::{CheckedSheet, target};
 use sheet_text::{Base, Row, TypeWord, Word};
 
-// The sheet and the marks of its idle rows, the message, and where its pieces go.
+// The sheet, the message, and where its pieces go.
 #[derive(Drop)]
-pub(crate) struct Walker<'w, 't, 'r, S, P> {
+pub(crate) struct Walker<'w, 't, 'r, M, P> {
     pub(crate) sheet: &'w CheckedSheet<'t, 'r>,
-    pub(crate) idle: &'w [bool],
-    pub(crate) source: &'w S,
+    pub(crate) message: &'w M,
     pub(crate) placer: &'w P,
 }
 
@@ -54,48 +49,55 @@ fn entered(here: Opened) -> Opened
     inside
 }
 
-fn pick(chosen: bool, yes: usize, no: usize) -> usize
+pub(crate) fn pick(chosen: bool, yes: usize, no: usize) -> usize
     ensures { result ≡ cond chosen yes no }
 {
     if chosen { yes } else { no }
 }
 
-impl<S: Source, P: Placer> Walker<'_, '_, '_, S, P> {
+// How many elements an array has by its number, if it can.
+fn elements_of(number: u64) -> Option<u16>
+    ensures { result ≡ elements_of number }
+{
+    u16::try_from(number).ok()
+}
+
+impl<M: Message, P: Placer> Walker<'_, '_, '_, M, P> {
     // How many elements an array has.
-    fn elements(
+    pub(crate) fn elements(
         &self,
         pieces: &mut BoundedList<'_, Piece>,
         here: &Opened,
         row: usize,
     ) -> Result<u16, LayFault>
-        ensures count { as_fault result ≡ counted (number_value (S.Source.cells self.now.source.now) self.now.sheet.now pieces.old here.now row) }
+        ensures count { result ≡ counted
+            (number_value (M.Message.meaning self.now.message.now) self.now.sheet.now pieces.old
+            here.now row) }
         ensures same { pieces.new ≡ pieces.old }
     {
         let evaluation = Evaluation {
             sheet: self.sheet,
-            source: self.source,
+            message: self.message,
             records: here,
         };
-        let count = evaluation.number(pieces, row)?;
-        if count > 65535 {
-            return Err(LayFault::TooMany);
-        }
-        Ok(count as u16)
+        elements_of(evaluation.number(pieces, row)?).ok_or(LayFault::TooMany)
     }
 
     // Which of its types an alternative has.
-    fn truth(
+    pub(crate) fn truth(
         &self,
         pieces: &mut BoundedList<'_, Piece>,
         here: &Opened,
         row: usize,
     ) -> Result<bool, LayFault>
-        ensures truth { as_fault result ≡ known (truth_value (S.Source.cells self.now.source.now) self.now.sheet.now pieces.old here.now row) }
+        ensures truth { result ≡ needed_value
+            (truth_value (M.Message.meaning self.now.message.now) self.now.sheet.now pieces.old
+            here.now row) }
         ensures same { pieces.new ≡ pieces.old }
     {
         let evaluation = Evaluation {
             sheet: self.sheet,
-            source: self.source,
+            message: self.message,
             records: here,
         };
         Ok(evaluation.truth(pieces, row)?)
@@ -115,11 +117,17 @@ impl<S: Source, P: Placer> Walker<'_, '_, '_, S, P> {
         requires other { (b : BaseWord) → ¬ (word ≡ type_words.Base b) }
         requires deep { length (records_of here) ≤ 8 }
         ensures outcome { MatchResult result
-            (λ f. (takes : List PieceSpec → PieceSpec → Bool) (n : ℕ) → Shallow (text_of self.now.sheet.now) (rows_of self.now.sheet.now) (in_front (path_of here.path) (records_of here) row) n
-            → StandsIn (text_of self.now.sheet.now) (rows_of self.now.sheet.now) (S.Source.cells self.now.source.now) takes (placed_of pieces.old) n (in_front (path_of here.path) (records_of here) row) (frame_of f))
-            (λ e. (takes : List PieceSpec → PieceSpec → Bool)
-            → through (text_of self.now.sheet.now) (rows_of self.now.sheet.now) (S.Source.cells self.now.source.now) takes (in_front (path_of here.path) (records_of here) row) (placed_of pieces.old)
-            ≡ refused (lay_fault e) row (placed_of pieces.old)) }
+            (λ f. (bars : Bars) (n : ℕ)
+            → Shallow (text_of self.now.sheet.now) (rows_of self.now.sheet.now)
+            (in_front (path_of here.path) (records_of here) row) n
+            → StandsIn (text_of self.now.sheet.now) (rows_of self.now.sheet.now)
+            (M.Message.meaning self.now.message.now) bars (placed_of pieces.old) n
+            (in_front (path_of here.path) (records_of here) row) (frame_of f))
+            (λ e. (bars : Bars)
+            → through (text_of self.now.sheet.now) (rows_of self.now.sheet.now)
+            (M.Message.meaning self.now.message.now) bars
+            (in_front (path_of here.path) (records_of here) row) (placed_of pieces.old)
+            ≡ refused e row (placed_of pieces.old)) }
         ensures same { pieces.new ≡ pieces.old }
     {
         match word {
@@ -147,7 +155,7 @@ impl<S: Source, P: Placer> Walker<'_, '_, '_, S, P> {
         }
     }
 
-    // A base row becomes a piece, unless it would pass the end or is not taken. Answers the place reached.
+    // A base row becomes a piece, unless it is not taken. Answers the place reached.
     pub(crate) fn put(
         &self,
         pieces: &mut BoundedList<'_, Piece>,
@@ -157,32 +165,31 @@ impl<S: Source, P: Placer> Walker<'_, '_, '_, S, P> {
         place: usize,
     ) -> Result<usize, LayFault>
         requires row { row < 65536 }
-        requires reached { Reached (placed_of pieces.now) (length (S.Source.cells self.now.source.now)) place }
+        requires reached { Reached (placed_of pieces.now) place }
         ensures outcome { MatchResult result
-            (λ q. ((flag : ℕ → Bool) → put_piece flag (S.Source.cells self.now.source.now) (P.Placer.takes self.now.placer.now (backing pieces.old)) (path_of path) row base (placed_of pieces.old) ≡ accepted (placed_of pieces.new))
-            × Reached (placed_of pieces.new) (length (S.Source.cells self.now.source.now)) q)
-            (λ e. ((flag : ℕ → Bool) → put_piece flag (S.Source.cells self.now.source.now) (P.Placer.takes self.now.placer.now (backing pieces.old)) (path_of path) row base (placed_of pieces.old) ≡ refused (lay_fault e) row (placed_of pieces.old))
+            (λ q. (put_piece (P.Placer.bars self.now.placer.now (backing pieces.old))
+            (path_of path) row base (placed_of pieces.old) ≡ accepted (placed_of pieces.new))
+            × Reached (placed_of pieces.new) q)
+            (λ e. (put_piece (P.Placer.bars self.now.placer.now (backing pieces.old))
+            (path_of path) row base (placed_of pieces.old) ≡ refused e row (placed_of pieces.old))
             × (placed_of pieces.new ≡ placed_of pieces.old)) }
-        ensures keeps { Keeps (P.Placer.takes self.now.placer.now) (P.Placer.leaves self.now.placer.now) pieces.old pieces.new }
+        ensures keeps { Keeps (P.Placer.bars self.now.placer.now)
+            (P.Placer.leaves self.now.placer.now)
+            pieces.old pieces.new }
     {
         let width = base.width();
-        if self.source.len() - place < usize::from(width) {
-            return Err(LayFault::PastEnd);
-        }
         let piece = Piece {
             path,
             row: row as u16,
             place: place as u16,
             width,
         };
-        if !self.placer.place(pieces, piece) {
-            return Err(LayFault::Full);
-        }
+        self.placer.place(pieces, piece)?;
         Ok(place + usize::from(width))
     }
 
-    // The row in front is opened: a base row becomes a piece, and its parts stand in for every other. An idle row
-    // is passed over. Answers the place reached.
+    // The row in front is opened: a base row becomes a piece, and its parts stand in for every
+    // other. Answers the place reached.
     pub(crate) fn open(
         &self,
         pieces: &mut BoundedList<'_, Piece>,
@@ -191,23 +198,28 @@ impl<S: Source, P: Placer> Walker<'_, '_, '_, S, P> {
         row: usize,
         place: usize,
     ) -> Result<usize, LayFault>
-        requires idle { Marked (text_of self.now.sheet.now) (rows_of self.now.sheet.now) self.now.idle.now }
-        requires shallow { AllShallow (text_of self.now.sheet.now) (rows_of self.now.sheet.now) (in_front (path_of here.path) (records_of here) row ∷ open_of frames.now) }
+        requires shallow { AllShallow (text_of self.now.sheet.now) (rows_of self.now.sheet.now)
+            (in_front (path_of here.path) (records_of here) row ∷ open_of frames.now) }
         requires room { 10 ≤ room frames.now }
-        requires reached { Reached (placed_of pieces.now) (length (S.Source.cells self.now.source.now)) place }
+        requires reached { Reached (placed_of pieces.now) place }
         ensures outcome { MatchResult result
-            (λ q. Turned (text_of self.now.sheet.now) (rows_of self.now.sheet.now) (S.Source.cells self.now.source.now) (P.Placer.takes self.now.placer.now (backing pieces.old))
-            (in_front (path_of here.path) (records_of here) row ∷ open_of frames.old) (placed_of pieces.old) (open_of frames.new) (placed_of pieces.new)
-            × Reached (placed_of pieces.new) (length (S.Source.cells self.now.source.now)) q)
-            (λ e. (resume (text_of self.now.sheet.now) (rows_of self.now.sheet.now) (S.Source.cells self.now.source.now) (P.Placer.takes self.now.placer.now (backing pieces.old))
-            (in_front (path_of here.path) (records_of here) row ∷ open_of frames.old) (placed_of pieces.old) ≡ refused (lay_fault e) row (placed_of pieces.new))
-            × Reached (placed_of pieces.new) (length (S.Source.cells self.now.source.now)) place) }
-        ensures keeps { Keeps (P.Placer.takes self.now.placer.now) (P.Placer.leaves self.now.placer.now) pieces.old pieces.new }
+            (λ q. Turned (text_of self.now.sheet.now) (rows_of self.now.sheet.now)
+            (M.Message.meaning self.now.message.now)
+            (P.Placer.bars self.now.placer.now (backing pieces.old))
+            (in_front (path_of here.path) (records_of here) row ∷ open_of frames.old)
+            (placed_of pieces.old) (open_of frames.new) (placed_of pieces.new)
+            × Reached (placed_of pieces.new) q)
+            (λ e. (resume (text_of self.now.sheet.now) (rows_of self.now.sheet.now)
+            (M.Message.meaning self.now.message.now)
+            (P.Placer.bars self.now.placer.now (backing pieces.old))
+            (in_front (path_of here.path) (records_of here) row ∷ open_of frames.old)
+            (placed_of pieces.old) ≡ refused e row (placed_of pieces.new))
+            × Reached (placed_of pieces.new) place) }
+        ensures keeps { Keeps (P.Placer.bars self.now.placer.now)
+            (P.Placer.leaves self.now.placer.now)
+            pieces.old pieces.new }
         ensures room { room frames.new ≡ room frames.old }
     {
-        if is_marked(self.idle, row) {
-            return Ok(place);
-        }
         let r = row_at(self.sheet, row);
         let Word::Type(word) = r.word else {
             return Err(LayFault::Void);

@@ -5,20 +5,19 @@ ghost use Rattle.path.specs.Meaning.{path_of};
 ghost use Rattle.opened.specs.Opens.{records_of};
 ghost use Rattle.sheet.specs.Sheets.{rows_of, text_of};
 ghost use Rattle.meaning.specs.Terms.{pieces_of};
+ghost use Rattle.meaning.specs.Matcher.{matched};
 ghost use Rattle.walk.specs.Frames.{in_array, in_front, frame_of, open_of, placed_of, resume};
-ghost use Rattle.walk.specs.Idle.{Marked};
 ghost use Rattle.walk.specs.Placers.{Keeps};
 ghost use Rattle.walk.specs.Turns.{AllShallow};
-ghost use Rattle.walk.specs.Walks.{Ends, Reached, TurnEnds, walked};
+ghost use Rattle.walk.specs.Walks.{Ends, Reached, TurnEnds};
 
-use crate::bases::base_at;
 use crate::fault::Halt;
 use crate::frames::{Frame, pop, push};
-use crate::idle::{idle_rows, is_marked};
 use crate::parts::{next_element, next_field};
 use crate::placer::Placer;
 use crate::walker::Walker;
-use cells::source::Source;
+use evaluate::message::Message;
+use evaluate::rows::base_at;
 use list::BoundedList;
 use opened::Opened;
 use path::Piece;
@@ -27,7 +26,18 @@ use sheet::CheckedSheet;
 // One place more than rows can be open, so that the list of them is never full.
 const OPEN_PLACES: usize = 10;
 
-impl<S: Source, P: Placer> Walker<'_, '_, '_, S, P> {
+// After so many turns that placed nothing, open rows go on without the parts that are quiet.
+const IDLE_TURNS: u32 = 256;
+
+// The turns since a piece was placed, as far as they count.
+fn counted_on(idle: u32, placed: bool) -> u32 {
+    if placed {
+        return 0;
+    }
+    idle.saturating_add(1)
+}
+
+impl<M: Message, P: Placer> Walker<'_, '_, '_, M, P> {
     // The row in front is opened, or stops the walk.
     fn front(
         &self,
@@ -37,13 +47,17 @@ impl<S: Source, P: Placer> Walker<'_, '_, '_, S, P> {
         row: usize,
         place: usize,
     ) -> Result<usize, Halt>
-        requires idle { Marked (text_of self.now.sheet.now) (rows_of self.now.sheet.now) self.now.idle.now }
-        requires shallow { AllShallow (text_of self.now.sheet.now) (rows_of self.now.sheet.now) (in_front (path_of here.path) (records_of here) row ∷ open_of frames.now) }
+        requires shallow { AllShallow (text_of self.now.sheet.now) (rows_of self.now.sheet.now)
+            (in_front (path_of here.path) (records_of here) row ∷ open_of frames.now) }
         requires room { 10 ≤ room frames.now }
-        requires reached { Reached (placed_of pieces.now) (length (S.Source.cells self.now.source.now)) place }
-        ensures outcome { TurnEnds self.now.sheet.now (S.Source.cells self.now.source.now) (P.Placer.takes self.now.placer.now (backing pieces.old))
-            (in_front (path_of here.path) (records_of here) row ∷ open_of frames.old) (placed_of pieces.old) (open_of frames.new) (placed_of pieces.new) result }
-        ensures keeps { Keeps (P.Placer.takes self.now.placer.now) (P.Placer.leaves self.now.placer.now) pieces.old pieces.new }
+        requires reached { Reached (placed_of pieces.now) place }
+        ensures outcome { TurnEnds self.now.sheet.now (M.Message.meaning self.now.message.now)
+            (P.Placer.bars self.now.placer.now (backing pieces.old))
+            (in_front (path_of here.path) (records_of here) row ∷ open_of frames.old)
+            (placed_of pieces.old) (open_of frames.new) (placed_of pieces.new) result }
+        ensures keeps { Keeps (P.Placer.bars self.now.placer.now)
+            (P.Placer.leaves self.now.placer.now)
+            pieces.old pieces.new }
         ensures room { room frames.new ≡ room frames.old }
     {
         match self.open(pieces, frames, here, row, place) {
@@ -56,7 +70,8 @@ impl<S: Source, P: Placer> Walker<'_, '_, '_, S, P> {
         }
     }
 
-    // The next element of an array, and the array behind it; or all that are left, where they are of a base row.
+    // The next element of an array, and the array behind it; or all that are left, where they are
+    // of a base row.
     fn next_elements(
         &self,
         pieces: &mut BoundedList<'_, Piece>,
@@ -67,12 +82,18 @@ impl<S: Source, P: Placer> Walker<'_, '_, '_, S, P> {
         count: u16,
         place: usize,
     ) -> Result<usize, Halt>
-        requires shallow { AllShallow (text_of self.now.sheet.now) (rows_of self.now.sheet.now) (in_array (path_of here.path) (records_of here) element index (count - index) ∷ open_of frames.now) }
+        requires shallow { AllShallow (text_of self.now.sheet.now) (rows_of self.now.sheet.now)
+            (in_array (path_of here.path) (records_of here) element index (count - index) ∷ open_of
+            frames.now) }
         requires room { 10 ≤ room frames.now }
-        requires reached { Reached (placed_of pieces.now) (length (S.Source.cells self.now.source.now)) place }
-        ensures outcome { TurnEnds self.now.sheet.now (S.Source.cells self.now.source.now) (P.Placer.takes self.now.placer.now (backing pieces.old))
-            (in_array (path_of here.path) (records_of here) element index (count - index) ∷ open_of frames.old) (placed_of pieces.old) (open_of frames.new) (placed_of pieces.new) result }
-        ensures keeps { Keeps (P.Placer.takes self.now.placer.now) (P.Placer.leaves self.now.placer.now) pieces.old pieces.new }
+        requires reached { Reached (placed_of pieces.now) place }
+        ensures outcome { TurnEnds self.now.sheet.now (M.Message.meaning self.now.message.now)
+            (P.Placer.bars self.now.placer.now (backing pieces.old))
+            (in_array (path_of here.path) (records_of here) element index (count - index) ∷ open_of
+            frames.old) (placed_of pieces.old) (open_of frames.new) (placed_of pieces.new) result }
+        ensures keeps { Keeps (P.Placer.bars self.now.placer.now)
+            (P.Placer.leaves self.now.placer.now)
+            pieces.old pieces.new }
         ensures room { room frames.new ≡ room frames.old }
     {
         let Some(base) = base_at(self.sheet, element) else {
@@ -90,13 +111,17 @@ impl<S: Source, P: Placer> Walker<'_, '_, '_, S, P> {
         frame: Frame,
         place: usize,
     ) -> Result<usize, Halt>
-        requires idle { Marked (text_of self.now.sheet.now) (rows_of self.now.sheet.now) self.now.idle.now }
-        requires shallow { AllShallow (text_of self.now.sheet.now) (rows_of self.now.sheet.now) (frame_of frame ∷ open_of frames.now) }
+        requires shallow { AllShallow (text_of self.now.sheet.now) (rows_of self.now.sheet.now)
+            (frame_of frame ∷ open_of frames.now) }
         requires room { 10 ≤ room frames.now }
-        requires reached { Reached (placed_of pieces.now) (length (S.Source.cells self.now.source.now)) place }
-        ensures outcome { TurnEnds self.now.sheet.now (S.Source.cells self.now.source.now) (P.Placer.takes self.now.placer.now (backing pieces.old))
-            (frame_of frame ∷ open_of frames.old) (placed_of pieces.old) (open_of frames.new) (placed_of pieces.new) result }
-        ensures keeps { Keeps (P.Placer.takes self.now.placer.now) (P.Placer.leaves self.now.placer.now) pieces.old pieces.new }
+        requires reached { Reached (placed_of pieces.now) place }
+        ensures outcome { TurnEnds self.now.sheet.now (M.Message.meaning self.now.message.now)
+            (P.Placer.bars self.now.placer.now (backing pieces.old))
+            (frame_of frame ∷ open_of frames.old) (placed_of pieces.old) (open_of frames.new)
+            (placed_of pieces.new) result }
+        ensures keeps { Keeps (P.Placer.bars self.now.placer.now)
+            (P.Placer.leaves self.now.placer.now)
+            pieces.old pieces.new }
         ensures room { room frames.new ≡ room frames.old }
     {
         match frame {
@@ -110,12 +135,7 @@ impl<S: Source, P: Placer> Walker<'_, '_, '_, S, P> {
                 element,
                 index,
                 count,
-            } => {
-                if is_marked(self.idle, element) {
-                    return Ok(place);
-                }
-                self.next_elements(pieces, frames, here, element, index, count, place)
-            }
+            } => { self.next_elements(pieces, frames, here, element, index, count, place) }
         }
     }
 
@@ -125,33 +145,45 @@ impl<S: Source, P: Placer> Walker<'_, '_, '_, S, P> {
         pieces: &mut BoundedList<'_, Piece>,
         frames: &mut BoundedList<'_, Frame>,
     ) -> Result<usize, Halt>
-        requires idle { Marked (text_of self.now.sheet.now) (rows_of self.now.sheet.now) self.now.idle.now }
-        requires shallow { AllShallow (text_of self.now.sheet.now) (rows_of self.now.sheet.now) (open_of frames.now) }
+        requires shallow { AllShallow (text_of self.now.sheet.now) (rows_of self.now.sheet.now)
+            (open_of frames.now) }
         requires room { 10 ≤ room frames.now }
         requires none { contents pieces.now ≡ [] }
         ensures outcome { Ends
-            (resume (text_of self.now.sheet.now) (rows_of self.now.sheet.now) (S.Source.cells self.now.source.now) (P.Placer.takes self.now.placer.now (backing pieces.old)) (open_of frames.old) [])
-            (placed_of pieces.new) (length (S.Source.cells self.now.source.now)) result }
-        ensures keeps { Keeps (P.Placer.takes self.now.placer.now) (P.Placer.leaves self.now.placer.now) pieces.old pieces.new }
+            (resume (text_of self.now.sheet.now) (rows_of self.now.sheet.now)
+            (M.Message.meaning self.now.message.now)
+            (P.Placer.bars self.now.placer.now (backing pieces.old)) (open_of frames.old) [])
+            (placed_of pieces.new) result }
+        ensures keeps { Keeps (P.Placer.bars self.now.placer.now)
+            (P.Placer.leaves self.now.placer.now)
+            pieces.old pieces.new }
     {
         let mut place = 0;
+        let mut idle = 0;
         while let Some(frame) = pop(frames) {
-            place = self.turn(pieces, frames, frame, place)?;
+            let further = self.turn(pieces, frames, frame, place)?;
+            idle = counted_on(idle, further > place);
+            place = further;
+            if idle >= IDLE_TURNS {
+                self.hush(pieces, frames);
+            }
         }
         Ok(place)
     }
 }
 
-/// Walks over the message by the sheet, from the empty list on. Answers the place reached, or what stops it.
-pub fn walk<S: Source, P: Placer>(
+/// Walks over the message by the sheet, from the empty list on. Answers the place reached, or what
+/// stops it.
+pub fn walk<M: Message, P: Placer>(
     sheet: &CheckedSheet<'_, '_>,
-    source: &S,
+    message: &M,
     placer: &P,
     pieces: &mut BoundedList<'_, Piece>,
 ) -> Result<usize, Halt>
     ensures outcome { Ends
-        (walked (text_of sheet.now) (rows_of sheet.now) (S.Source.cells source.now) (P.Placer.takes placer.now (backing pieces.old)))
-        (pieces_of (contents pieces.new)) (length (S.Source.cells source.now)) result }
+        (matched (text_of sheet.now) (rows_of sheet.now) (M.Message.meaning message.now)
+        (P.Placer.bars placer.now (backing pieces.old)))
+        (pieces_of (contents pieces.new)) result }
     ensures leaves { P.Placer.leaves placer.now (backing pieces.old) pieces.new }
     ensures lender { pieces.new.entries.ghost_name ≡ pieces.old.entries.ghost_name }
 {
@@ -163,11 +195,9 @@ pub fn walk<S: Source, P: Placer>(
     let mut frames = BoundedList::new(&mut open);
     push(&mut frames, first);
     pieces.clear();
-    let idle = idle_rows(sheet);
     let walker = Walker {
         sheet,
-        idle: &idle,
-        source,
+        message,
         placer,
     };
     walker.work_off(pieces, &mut frames)

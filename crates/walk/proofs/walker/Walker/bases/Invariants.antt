@@ -1,4 +1,4 @@
-use Rattle.std.proofs.Common.{◌≡◌, ◌-◌, List, [], ◌∷◌, ◌++◌, length}
+use Rattle.std.proofs.Common.{◌≡◌, ◌-◌, List, [], ◌∷◌, ◌++◌}
 use Rattle.list.specs.Contents.{backing}
 use Rattle.path.specs.Meaning.{Downward, path_of}
 use Rattle.sheet.specs.Sheets.{rows_of, text_of}
@@ -13,12 +13,15 @@ use Rattle.walk.proofs.walker.Walker.bases.Given as goal
 abbrev pub invariant-loop-i : goal.invariant-loop-i
 invariant-loop-i g l =
     let s = l.self.sheet.now in
-    let cs = g.S.Source.cells l.self.source.now in
-    let takes = g.P.Placer.takes l.self.placer.now (backing l.fn.pieces) in
+    let message = g.M.Message.meaning l.self.message.now in
+    let bars = g.P.Placer.bars l.self.placer.now (backing l.fn.pieces) in
     record {
-      same : (O : List Path) → elements (text_of s) (rows_of s) cs takes (path_of l.fn.here) l.row l.index (l.count - l.index) (placed_of l.fn.pieces) O
-          ≡ elements (text_of s) (rows_of s) cs takes (path_of l.fn.here) l.row l.i (l.count - l.i) (placed_of l.pieces) O;
-      reached : Reached (placed_of l.pieces) (length cs) l.place;
+      same : (O : List Path) → elements (text_of s) (rows_of s) message bars (path_of l.fn.here)
+          l.row l.index (l.count - l.index) (placed_of l.fn.pieces) O
+          ≡ elements (text_of s) (rows_of s) message bars (path_of l.fn.here) l.row l.i
+          (l.count - l.i) (placed_of l.pieces) O;
+      reached : Reached (placed_of l.pieces) l.place;
       there : (e : Downward) × (path_of l.there ≡ path_of l.fn.here ++ e ∷ []);
-      keeps : Keeps (g.P.Placer.takes l.self.placer.now) (g.P.Placer.leaves l.self.placer.now) l.fn.pieces l.pieces;
+      keeps : Keeps (g.P.Placer.bars l.self.placer.now) (g.P.Placer.leaves l.self.placer.now)
+          l.fn.pieces l.pieces;
     }

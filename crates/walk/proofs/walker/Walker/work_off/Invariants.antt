@@ -10,10 +10,15 @@ use Rattle.walk.proofs.walker.Walker.work_off.Given as goal
 abbrev pub invariant-loop-frame : goal.invariant-loop-frame
 invariant-loop-frame g l =
     record {
-      running : Running (text_of l.self.sheet.now) (rows_of l.self.sheet.now) (g.S.Source.cells l.self.source.now) (g.P.Placer.takes l.self.placer.now (backing l.fn.pieces)) (open_of l.fn.frames) (open_of l.frames) (placed_of l.pieces) l.place;
-      keeps : Keeps (g.P.Placer.takes l.self.placer.now) (g.P.Placer.leaves l.self.placer.now) l.fn.pieces l.pieces;
+      running : Running (text_of l.self.sheet.now) (rows_of l.self.sheet.now)
+          (g.M.Message.meaning l.self.message.now)
+          (g.P.Placer.bars l.self.placer.now (backing l.fn.pieces)) (open_of l.fn.frames)
+          (open_of l.frames) (placed_of l.pieces) l.place;
+      keeps : Keeps (g.P.Placer.bars l.self.placer.now) (g.P.Placer.leaves l.self.placer.now)
+          l.fn.pieces l.pieces;
       room : 10 ≤ room l.frames;
     }
 
 abbrev pub decreases-loop-frame : goal.decreases-loop-frame
-decreases-loop-frame g l = turns_left (text_of l.self.sheet.now) (rows_of l.self.sheet.now) (open_of l.frames)
+decreases-loop-frame g l = turns_left (text_of l.self.sheet.now) (rows_of l.self.sheet.now)
+    (open_of l.frames)
