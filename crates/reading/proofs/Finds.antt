@@ -1,32 +1,46 @@
 -- A find as a step.
-use Rattle.std.proofs.Common.{◌≡◌, ℕ, List, take, Some, None, Option, sym, refl, subst}
-use Rattle.told.specs.Answers as told
+use Rattle.std.proofs.Common.{◌≡◌, ℕ, List, Some, None, Ok, Err, Option, Result, sym, refl, ap, ◌∙◌}
+use Rattle.std.proofs.Common.{subst}
+use Rattle.told.specs.Answers.{Answer, given, refused, as_told}
 use Rattle.cells.specs.declared.cell.Cell.{Cell}
 use Rattle.sheet_text.specs.declared.row.Row.{Row}
 use Rattle.meaning.specs.Terms.{PieceSpec}
 use Rattle.reading.specs.declared.answers.Found.{Found}
-use Rattle.reading.specs.States.{named}
-use Rattle.reading.specs.Outcomes.{meant, or_no_piece, with_piece, found_as, found_of}
-use Rattle.reading.specs.Steps.{Step, Made, find, found, not_found, found_unlaid}
+use Rattle.reading.specs.declared.refusals.FindRefusal.{FindRefusal}
 use Rattle.reading.specs.Calls.{find_said}
+use Rattle.reading.specs.Outcomes.{found_as, meant, or_refused, with_piece}
+use Rattle.reading.specs.Refusals.{find_told}
+use Rattle.reading.specs.States.{State, kept, named, absent}
+use Rattle.reading.specs.Steps.{Said, finds, refuses, Made, Step, find, on, missing, meets, found}
 use Rattle.reading.proofs.Settling.{made}
 
-module _ (text : List ℕ) (rows : List Row) where
-  found_step : (cells : List Cell) (T : List PieceSpec) (n : ℕ) (path : List ℕ) (o : Option PieceSpec) → named (take n T) path ≡ o
-      → Step text rows (record { cells = cells; entries = T; laid = Some n }) (find path) (find_said (with_piece (or_no_piece o) found_as)) (record { cells = cells; entries = T; laid = Some n })
-  found_step cells T n path None e = not_found (n, refl) e
-  found_step cells T n path (Some p) e = found (n, refl) e
+-- what a find that is so told says
+abbrev said_as : Answer Found → Said
+said_as (given f) = finds f.row f.place f.width
+said_as (refused t) = refuses t None
 
-  meant_step : (cells : List Cell) (T : List PieceSpec) (o : Option ℕ) (path : List ℕ)
-      → Step text rows (record { cells = cells; entries = T; laid = o }) (find path) (find_said (with_piece (meant o T path) found_as)) (record { cells = cells; entries = T; laid = o })
-  meant_step cells T None path = found_unlaid refl
-  meant_step cells T (Some n) path = found_step cells T n path (named (take n T) path) refl
+same_said : (r : Result Found FindRefusal) → said_as (as_told find_told r) ≡ find_said r
+same_said (Ok f) = refl
+same_said (Err e) = refl
 
-  pub find_made : (cells : List Cell) (T U : List PieceSpec) (o : Option ℕ) (path : List ℕ) (a : told.Answer Found)
-      → a ≡ found_of o T path → U ≡ T
-      → Made text rows (record { cells = cells; entries = T; laid = o }) (find path) (find_said a) (record { cells = cells; entries = U; laid = o })
-  find_made cells T U o path a e f =
+module _ (text : List ℕ) (rows : List Row) (cells : List Cell) (T : List PieceSpec) (o : Option ℕ)
+    (path : List ℕ) where
+  abbrev state : List PieceSpec → State
+  state U = record { cells = cells; entries = U; laid = o }
+
+  step_by : (q : Option PieceSpec) → named (kept o T) path ≡ q
+      → Step text rows (state T) (on path find)
+      (said_as (with_piece (or_refused (absent o) q) found_as)) (state T)
+  step_by (Some p) e = meets e found
+  step_by None e = missing e
+
+  pub find_made : (r : Result Found FindRefusal) (U : List PieceSpec)
+      → as_told find_told r ≡ with_piece (meant o T path) found_as → U ≡ T
+      → Made text rows (state T) (on path find) (find_said r) (state U)
+  find_made r U e f =
       made text rows
-      (subst (λ b. Step text rows (record { cells = cells; entries = T; laid = o }) (find path) (find_said b) (record { cells = cells; entries = U; laid = o })) (sym e)
-      (subst (λ V. Step text rows (record { cells = cells; entries = T; laid = o }) (find path) (find_said (with_piece (meant o T path) found_as)) (record { cells = cells; entries = V; laid = o })) (sym f)
-      (meant_step cells T o path)))
+      (subst (λ a. Step text rows (state T) (on path find) a (state U))
+      (sym (ap said_as e) ∙ same_said r)
+      (subst (λ V. Step text rows (state T) (on path find)
+      (said_as (with_piece (meant o T path) found_as)) (state V)) (sym f)
+      (step_by (named (kept o T) path) refl)))

@@ -1,20 +1,32 @@
--- What laying promises of readings.
-use Rattle.std.specs.Prelude.{◌≡◌, ℕ, ◌<◌, ◌≤◌, List, length, take, Ok, Err, Result}
+-- What laying a message answers, and what it leaves in a list, in terms of readings.
+use Rattle.std.specs.Prelude.{◌≡◌, ◌↔◌, ℕ, ◌≤◌, List, ◌++◌, length, drop, Ok, Err, Result, IsOk}
 use Rattle.cells.specs.declared.cell.Cell.{Cell}
 use Rattle.sheet_text.specs.declared.row.Row.{Row}
 use Rattle.meaning.specs.Terms.{PieceSpec, total}
 use Rattle.meaning.specs.Readings.{Reads}
+use Rattle.laws.specs.Stops.{LayingStops}
+use Rattle.meaning.specs.declared.fault.LayFault.{LayFault}
 use Rattle.reading.specs.declared.answers.Cover.{Cover}
 use Rattle.reading.specs.declared.refusals.LayRefusal.{LayRefusal}
 
--- the list begins with the reading of the cells, which fits its places; the answer gives its number of pieces and its width
-pub record Covers (text : List ℕ) (rows : List Row) (cells : List Cell) (room : ℕ) (entries : List PieceSpec) (q : Cover) : Type 0 where
-  pub reads : Reads text rows cells (take q.pieces entries)
-  pub count : q.pieces ≡ length (take q.pieces entries)
-  pub width : q.width ≡ total (take q.pieces entries)
-  pub fits : q.pieces ≤ room
+module _ (text : List ℕ) (rows : List Row) (cells : List Cell) (before : List PieceSpec) where
+  -- a reading that the list has places for
+  abbrev pub Fits : List PieceSpec → Type 0
+  Fits T = Reads text rows cells T × (length T ≤ length before)
 
--- accepted, it is so; refused, no reading fits
-abbrev pub LaysReading : List ℕ → List Row → List Cell → ℕ → List PieceSpec → Result Cover LayRefusal → Type 0
-LaysReading text rows cells room entries (Ok q) = Covers text rows cells room entries q
-LaysReading text rows cells room entries (Err e) = (T : List PieceSpec) → Reads text rows cells T → room < length T
+  -- the answer, and the list: the pieces placed stand first, and later entries are as before
+  pub data Lays : Result Cover LayRefusal → List PieceSpec → Type 0 where
+    laid : {T : List PieceSpec} → Fits T
+        → Lays (Ok (record { pieces = length T; width = total T })) (T ++ drop (length T) before)
+    -- laying stops with the pieces A placed, at row r, for e
+    stopped : {A : List PieceSpec} {e : LayFault} {r : ℕ}
+        → LayingStops text rows cells (length before) A e r
+        → Lays (Err (record { fault = e; row = r; place = total A; pieces = length A }))
+        (A ++ drop (length A) before)
+
+  -- laying is accepted exactly when a reading fits, and no other answer and list are possible
+  pub record LaysReading (answer : Result Cover LayRefusal) (after : List PieceSpec) : Type 0 where
+    pub lays : Lays answer after
+    pub accepts : IsOk answer ↔ ((T : List PieceSpec) × Fits T)
+    pub only : (r : Result Cover LayRefusal) (U : List PieceSpec) → Lays r U
+        → (r ≡ answer) × (U ≡ after)

@@ -1,9 +1,8 @@
 pub mod Refusals
 pub mod States
 pub mod Outcomes
-pub mod Steps
 pub mod Lays
+pub mod Steps
 pub mod Puts
 pub mod Calls
-pub mod Decided
 pub mod Law

@@ -1,22 +1,26 @@
 -- Runs of calls, in terms of readings.
-use Rattle.std.specs.Prelude.{◌≡◌, ℕ, ◌<◌, ◌≤◌, List, [], ◌∷◌, ◌++◌, length, drop, Some, None}
+use Rattle.std.specs.Prelude.{◌≡◌, ℕ, ◌<◌, ◌≤◌, List, [], ◌∷◌, ◌++◌, length, drop}
+use Rattle.std.specs.Prelude.{Option, Some, None}
 use Rattle.told.specs.declared.Told.{Told}
-use Rattle.cells.specs.declared.cell.Cell.{Cell}
-use Rattle.cells.specs.Changed.{changed}
+use Rattle.told.specs.Answers.{bare}
+use Rattle.cells.specs.Changed.{with_bytes}
 use Rattle.sheet_text.specs.declared.row.Row.{Row}
 use Rattle.meaning.specs.Terms.{PieceSpec, total}
-use Rattle.meaning.specs.Matcher.{Fault, refused}
-use Rattle.meaning.specs.Readings.{Reads, matched, fault_told, reached}
-use Rattle.reading.specs.Refusals.{nothing_laid, no_piece, wrong_width, no_reading}
-use Rattle.reading.specs.States.{State, kept, IsLaid, Settled, named}
+use Rattle.meaning.specs.declared.fault.LayFault.{LayFault}
+use Rattle.meaning.specs.Readings.{Reads}
+use Rattle.meaning.specs.Refusals.{fault_told, reached}
+use Rattle.laws.specs.Stops.{LayingStops}
+use Rattle.reading.specs.States.{State, kept, named, absent, Settled}
 
--- what is asked
+-- what is asked of a piece: where it is, or to take new bytes
+pub data Task : Type 0 where
+  find : Task
+  put : List ℕ → Task
+
+-- what is asked, of the piece with a path in print or of all
 pub data Asked : Type 0 where
   lay lift : Asked
-  -- a path in print
-  find : List ℕ → Asked
-  -- the same, and the new bytes
-  put : List ℕ → List ℕ → Asked
+  on : List ℕ → Task → Asked
 
 -- what is told
 pub data Said : Type 0 where
@@ -25,47 +29,44 @@ pub data Said : Type 0 where
   -- a row, a place and a width
   finds : ℕ → ℕ → ℕ → Said
   accepts lifts : Said
-  -- a refusal of lay, of find, of put
-  lay_refuses find_refuses put_refuses : Told → Said
-
--- of all lists of pieces at most one is a reading
-abbrev pub OneReading : List ℕ → List Row → Type 0
-OneReading text rows = (cells : List Cell) (T U : List PieceSpec) → Reads text rows cells T → Reads text rows cells U → T ≡ U
+  -- a refusal, and why laying stops if that is what is told
+  refuses : Told → Option LayFault → Said
 
 module _ (text : List ℕ) (rows : List Row) where
+  -- what the kept piece p gives, and what it leaves
+  pub data Done (s : State) (p : PieceSpec) : Task → Said → State → Type 0 where
+    found : Done s p find (finds p.row p.place p.width) s
+    -- not so many bytes as the piece is wide
+    not_wide : {bytes : List ℕ} → ¬ (length bytes ≡ p.width)
+        → Done s p (put bytes) (refuses (bare 23) None) s
+    -- as many, but the kept pieces are no reading of the changed bytes
+    not_put : {bytes : List ℕ} → length bytes ≡ p.width
+        → ¬ Reads text rows (with_bytes s.cells p.place bytes) (kept s.laid s.entries)
+        → Done s p (put bytes) (refuses (bare 24) None) s
+    -- they are, and the bytes are written
+    put' : {bytes : List ℕ} → length bytes ≡ p.width
+        → Reads text rows (with_bytes s.cells p.place bytes) (kept s.laid s.entries)
+        → Done s p (put bytes) accepts (record s { cells = with_bytes s.cells p.place bytes })
+
   -- what a call is told, and what it leaves
   pub data Step : State → Asked → Said → State → Type 0 where
     -- the reading fits the list: it stands first there, and is laid
-    laid : {s : State} {T : List PieceSpec}
-        → Reads text rows s.cells T → length T ≤ length s.entries
-        → Step s lay (covers (length T) (total T)) (record { cells = s.cells; entries = T ++ drop (length T) s.entries; laid = Some (length T) })
-    -- no reading fits: what the matcher placed stands first in the list, and nothing is laid
-    not_laid : {s : State} {e : Fault} {r : ℕ} {A : List PieceSpec}
+    laid : {s : State} {T : List PieceSpec} → Reads text rows s.cells T
+        → length T ≤ length s.entries → Step s lay (covers (length T) (total T))
+        (record s { entries = T ++ drop (length T) s.entries; laid = Some (length T) })
+    -- none fits: laying stops, the pieces A placed by then stand first, and nothing is laid
+    stopped : {s : State} {e : LayFault} {r : ℕ} {A : List PieceSpec}
         → ((T : List PieceSpec) → Reads text rows s.cells T → length s.entries < length T)
-        → matched text rows s.cells (length s.entries) ≡ refused e r A
-        → Step s lay (lay_refuses (reached r A (fault_told e))) (record { cells = s.cells; entries = A ++ drop (length A) s.entries; laid = None })
-    -- a kept piece has the path
-    found : {s : State} {path : List ℕ} {p : PieceSpec}
-        → IsLaid s → named (kept s) path ≡ Some p → Step s (find path) (finds p.row p.place p.width) s
-    not_found : {s : State} {path : List ℕ}
-        → IsLaid s → named (kept s) path ≡ None → Step s (find path) (find_refuses no_piece) s
-    found_unlaid : {s : State} {path : List ℕ} → s.laid ≡ None → Step s (find path) (find_refuses nothing_laid) s
-    -- the kept pieces are the reading of the changed bytes, which are written
-    put' : {s : State} {path bytes : List ℕ} {p : PieceSpec}
-        → IsLaid s → named (kept s) path ≡ Some p → length bytes ≡ p.width
-        → Reads text rows (changed s.cells p.place bytes) (kept s)
-        → Step s (put path bytes) accepts (record { cells = changed s.cells p.place bytes; entries = s.entries; laid = s.laid })
-    -- they are no reading of them
-    not_put : {s : State} {path bytes : List ℕ} {p : PieceSpec}
-        → IsLaid s → named (kept s) path ≡ Some p → length bytes ≡ p.width
-        → ¬ Reads text rows (changed s.cells p.place bytes) (kept s)
-        → Step s (put path bytes) (put_refuses no_reading) s
-    not_wide : {s : State} {path bytes : List ℕ} {p : PieceSpec}
-        → IsLaid s → named (kept s) path ≡ Some p → ¬ (length bytes ≡ p.width) → Step s (put path bytes) (put_refuses wrong_width) s
-    not_named : {s : State} {path bytes : List ℕ} → IsLaid s → named (kept s) path ≡ None → Step s (put path bytes) (put_refuses no_piece) s
-    put_unlaid : {s : State} {path bytes : List ℕ} → s.laid ≡ None → Step s (put path bytes) (put_refuses nothing_laid) s
-    -- nothing is laid any more
-    lifted : {s : State} → Step s lift lifts (record { cells = s.cells; entries = s.entries; laid = None })
+        → LayingStops text rows s.cells (length s.entries) A e r
+        → Step s lay (refuses (reached r A (fault_told e)) (Some e))
+        (record s { entries = A ++ drop (length A) s.entries; laid = None })
+    lifted : {s : State} → Step s lift lifts (record s { laid = None })
+    -- no kept piece has the path
+    missing : {s : State} {path : List ℕ} {k : Task} → named (kept s.laid s.entries) path ≡ None
+        → Step s (on path k) (refuses (absent s.laid) None) s
+    -- a kept piece has it
+    meets : {s t : State} {path : List ℕ} {p : PieceSpec} {k : Task} {a : Said}
+        → named (kept s.laid s.entries) path ≡ Some p → Done s p k a t → Step s (on path k) a t
 
   -- a call that is made leaves a settled state where it meets one
   pub record Made (s : State) (c : Asked) (a : Said) (t : State) : Type 0 where

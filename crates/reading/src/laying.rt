@@ -3,20 +3,23 @@ ghost use Rattle.std.specs.Prelude.{◌≡◌, ◌≤◌, ℕ, List, None, lengt
 ghost use Rattle.cells.specs.declared.cell.Cell.{Cell};
 ghost use Rattle.sheet.specs.Sheets.{rows_of, text_of};
 ghost use Rattle.sheet_text.specs.declared.row.Row.{Row};
-ghost use Rattle.meaning.specs.Readings.{laid_told, matched};
+ghost use Rattle.meaning.specs.Laying.{laid_in, laid_told};
 ghost use Rattle.meaning.specs.Terms.{pieces_of};
+ghost use Rattle.meaning.specs.Readings.{OneReading};
 ghost use Rattle.path.specs.declared.Piece.{Piece};
-ghost use Rattle.reading.specs.Calls.{lay_said};
 ghost use Rattle.reading.specs.Lays.{LaysReading};
-ghost use Rattle.reading.specs.Outcomes.{count_of, cover_told, laid_by, laid_over, pieces_in};
+ghost use Rattle.reading.specs.Calls.{lay_said};
+ghost use Rattle.reading.specs.Outcomes.{Placed, count_of, cover_told};
+ghost use Rattle.reading.specs.Outcomes.{laid_by, laid_over, pieces_in};
 ghost use Rattle.reading.specs.States.{state_of};
-ghost use Rattle.reading.specs.Steps.{Made, OneReading};
+ghost use Rattle.reading.specs.Steps.{Made};
 ghost use Rattle.reading.specs.Steps as steps;
 
 use crate::Laid;
 use crate::answers::Cover;
 use crate::refusals::LayRefusal;
 use cells::source::Source;
+use evaluate::message::BySheet;
 use list::BoundedList;
 use path::Piece;
 use sheet::CheckedSheet;
@@ -29,13 +32,16 @@ fn place_pieces<S: Source>(
     source: &S,
     pieces: &mut [Piece],
 ) -> Result<Cover, LayRefusal>
-    ensures told { cover_told result ≡ laid_told (matched (text_of sheet.now) (rows_of sheet.now) (S.Source.cells source.now) (length pieces.old)) }
-    ensures front { pieces_of (take (count_of result) pieces.new) ≡ pieces_in (matched (text_of sheet.now) (rows_of sheet.now) (S.Source.cells source.now) (length pieces.old)) }
+    ensures placed { Placed
+        (laid_in (text_of sheet.now) (rows_of sheet.now) (S.Source.cells source.now)
+        (length pieces.old))
+        (pieces_of (take (count_of result) pieces.new)) result }
     ensures rest { drop (count_of result) pieces.new ≡ drop (count_of result) pieces.old }
     ensures room { count_of result ≤ length pieces.old }
 {
     let mut list = BoundedList::new(pieces);
-    let answer = walk(sheet, source, &Recording, &mut list);
+    let message = BySheet { sheet, source };
+    let answer = walk(sheet, &message, &Recording::of(&message), &mut list);
     let count = list.len();
     match answer {
         Ok(width) => Ok(Cover {
@@ -58,14 +64,23 @@ pub fn lay<S: Source>(
     pieces: &mut [Piece],
     laid: &mut Laid,
 ) -> Result<Cover, LayRefusal>
-    ensures told { cover_told result ≡ laid_told (matched (text_of sheet.now) (rows_of sheet.now) (S.Source.cells source.now) (length pieces.old)) }
-    ensures reading { LaysReading (text_of sheet.now) (rows_of sheet.now) (S.Source.cells source.now) (length pieces.old) (pieces_of pieces.new) result }
-    ensures made { Made (text_of sheet.now) (rows_of sheet.now) (state_of (S.Source.cells source.now) pieces.old laid.old) steps.lay
-        (lay_said (cover_told result)) (state_of (S.Source.cells source.now) pieces.new laid.new) }
-    ensures front { pieces_of (take (count_of result) pieces.new) ≡ pieces_in (matched (text_of sheet.now) (rows_of sheet.now) (S.Source.cells source.now) (length pieces.old)) }
+    ensures reading { LaysReading (text_of sheet.now) (rows_of sheet.now)
+        (S.Source.cells source.now) (pieces_of pieces.old) result (pieces_of pieces.new) }
+    ensures made { Made (text_of sheet.now) (rows_of sheet.now)
+        (state_of (S.Source.cells source.now) pieces.old laid.old) steps.lay
+        (lay_said result) (state_of (S.Source.cells source.now) pieces.new laid.new) }
+    ensures told { cover_told result ≡ laid_told
+        (laid_in (text_of sheet.now) (rows_of sheet.now) (S.Source.cells source.now)
+        (length pieces.old)) }
+    ensures front { pieces_of (take (count_of result) pieces.new) ≡ pieces_in
+        (laid_in (text_of sheet.now) (rows_of sheet.now) (S.Source.cells source.now)
+        (length pieces.old)) }
+    ensures entries { pieces_of pieces.new ≡ laid_over
+        (laid_in (text_of sheet.now) (rows_of sheet.now) (S.Source.cells source.now)
+        (length pieces.old))
+        (pieces_of pieces.old) }
     ensures rest { drop (count_of result) pieces.new ≡ drop (count_of result) pieces.old }
-    ensures entries { pieces_of pieces.new ≡ laid_over (matched (text_of sheet.now) (rows_of sheet.now) (S.Source.cells source.now) (length pieces.old)) (pieces_of pieces.old) }
-    ensures laid { laid.new.pieces ≡ laid_by result }
+    ensures laid { laid.new ≡ laid_by result }
     ensures one { OneReading (text_of sheet.now) (rows_of sheet.now) }
 {
     lift(laid);
@@ -76,9 +91,10 @@ pub fn lay<S: Source>(
 
 /// Leaves nothing laid.
 pub fn lift(laid: &mut Laid)
-    ensures laid { laid.new.pieces ≡ None }
+    ensures laid { laid.new ≡ None }
     ensures made { (text : List ℕ) (rows : List Row) (cells : List Cell) (pieces : List Piece) →
-        Made text rows (state_of cells pieces laid.old) steps.lift steps.lifts (state_of cells pieces laid.new) }
+        Made text rows (state_of cells pieces laid.old) steps.lift steps.lifts
+        (state_of cells pieces laid.new) }
 {
     laid.pieces = None;
 }

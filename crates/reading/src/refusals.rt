@@ -3,8 +3,8 @@ ghost use Rattle.std.specs.Prelude.{◌≡◌};
 ghost use Rattle.reading.specs.Refusals.{lay_refusal_told, find_told, show_told, put_told};
 
 use cells::cell::ReadFault;
+use meaning::LayFault;
 use told::Told;
-use walk::LayFault;
 
 /// Why the row in front was refused, that row, the place reached and the number of pieces placed.
 #[derive(Clone, Copy)]
@@ -15,6 +15,7 @@ pub struct LayRefusal {
     pub pieces: usize,
 }
 
+/// Why no piece is found.
 #[derive(Clone, Copy)]
 pub enum FindRefusal {
     NothingLaid,
@@ -22,6 +23,7 @@ pub enum FindRefusal {
     NoPiece,
 }
 
+/// Why no bytes are shown.
 #[derive(Clone, Copy)]
 pub enum ShowRefusal {
     NothingLaid,
@@ -30,6 +32,7 @@ pub enum ShowRefusal {
     PastEnd(usize),
 }
 
+/// Why no bytes are put.
 #[derive(Clone, Copy)]
 pub enum PutRefusal {
     NothingLaid,
