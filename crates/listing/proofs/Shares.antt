@@ -1,7 +1,10 @@
 -- Parts of the cells, and lines of pieces.
-use Rattle.std.proofs.Common.{◌≡◌, ℕ, ◌+◌, ◌-◌, ◌*◌, ◌<◌, ◌≤◌, List, [], ◌∷◌, ◌++◌, map, length, get_or, take, drop, decimal, sym, refl, ap, ◌∙◌, append-nil, arith, length-append}
-use Rattle.std.specs.List.{flat_map}
-use Rattle.std.proofs.lemmas.List.{flat_map_more, length-drop, get_or-drop, map-append, map_more, take_more}
+use Rattle.std.proofs.Common.{◌≡◌, ℕ, ◌+◌, ◌-◌, ◌*◌, ◌<◌, ◌≤◌, List, [], ◌∷◌, ◌++◌, map, length}
+use Rattle.std.proofs.Common.{get_or, take, drop, decimal, sym, refl, ap, ◌∙◌, append-nil, arith}
+use Rattle.std.proofs.Common.{length-append}
+use Rattle.std.specs.List.{flat_map, slice_get}
+use Rattle.std.proofs.lemmas.List.{flat_map_more, length-drop, get_or-drop, map-append, map_more}
+use Rattle.std.proofs.lemmas.List.{take_more}
 use Rattle.std.proofs.lemmas.Grind.{flat_map-append}
 use Rattle.std.proofs.lemmas.Option.{slice_get-get_or}
 use Rattle.cells.specs.Cells.{read_at, answered, cell_read}
@@ -22,12 +25,15 @@ answer_cell : (c : Cell) → answer_text (cell_read c) ≡ cell_text c
 answer_cell (Byte b) = refl
 answer_cell (Lost m) = refl
 
-answer_at : (cs : List Cell) (k : ℕ) → k < length cs → answer_text (read_at cs k) ≡ cell_text (get_or cs k blank)
-answer_at cs k h = ap (λ o. answer_text (answered k o)) (slice_get-get_or cs k blank h) ∙ answer_cell (get_or cs k blank)
+answer_at : (cs : List Cell) (k : ℕ) → k < length cs
+    → answer_text (read_at cs k) ≡ cell_text (get_or cs k blank)
+answer_at cs k h = ap (λ o. answer_text (answered k o)) (slice_get-get_or cs k blank h)
+    ∙ answer_cell (get_or cs k blank)
 
 -- one cell more of a part that begins at p
 pub cell_more : (cs : List Cell) (p k : ℕ) → p ≤ k → k < length cs
-    → flat_map cell_text (take (k - p) (drop p cs)) ++ answer_text (read_at cs k) ≡ flat_map cell_text (take (k + 1 - p) (drop p cs))
+    → flat_map cell_text (take (k - p) (drop p cs)) ++ answer_text (read_at cs k)
+    ≡ flat_map cell_text (take (k + 1 - p) (drop p cs))
 cell_more cs p k a h =
     let i = k - p in
     let e : p + i ≡ k = omega arith in
@@ -45,19 +51,28 @@ length_cells [] = refl
 length_cells (c ∷ cs) = omega (arith, two c, length_cells cs, length-append {A = ℕ})
 
 -- one line more, each of a piece
-pub piece_more : (line : PieceSpec → List ℕ) (ps : List Piece) (i : ℕ) (p : Piece) → i < length ps → p ≡ get_or ps i p
-    → whole_text (map line (pieces_of (take i ps))) ++ ended (line (piece_of p)) ≡ whole_text (map line (pieces_of (take (i + 1) ps)))
+pub piece_more : (line : PieceSpec → List ℕ) (ps : List Piece) (i : ℕ) (p : Piece) → i < length ps
+    → p ≡ get_or ps i p
+    → whole_text (map line (pieces_of (take i ps))) ++ ended (line (piece_of p))
+    ≡ whole_text (map line (pieces_of (take (i + 1) ps)))
 piece_more line ps i p h e =
     let front = pieces_of (take i ps) in
     let x = piece_of (get_or ps i p) in
     ap (λ q. whole_text (map line front) ++ ended (line (piece_of q))) e
     ∙ flat_map_more ended [] (map line front) (line x)
-    ∙ ap whole_text (sym (ap (map line) (map_more piece_of ps i p h) ∙ map-append line front (x ∷ [])))
+    ∙ ap whole_text
+    (sym (ap (map line) (map_more piece_of ps i p h) ∙ map-append line front (x ∷ [])))
 
 -- a last line behind others
-pub line_last : (first : List ℕ) (xs : List (List ℕ)) (x : List ℕ) → ended first ++ (whole_text xs ++ ended x) ≡ whole_text (first ∷ (xs ++ (x ∷ [])))
-line_last first xs x = ap (λ t. ended first ++ t) (ap (λ t. whole_text xs ++ t) (sym (append-nil (ended x))) ∙ sym (flat_map-append ended xs (x ∷ [])))
+pub line_last : (first : List ℕ) (xs : List (List ℕ)) (x : List ℕ)
+    → ended first ++ (whole_text xs ++ ended x) ≡ whole_text (first ∷ (xs ++ (x ∷ [])))
+line_last first xs x = ap (λ t. ended first ++ t)
+    (ap (λ t. whole_text xs ++ t) (sym (append-nil (ended x)))
+    ∙ sym (flat_map-append ended xs (x ∷ [])))
 
 -- one number more behind a word
-pub numbers_more : (word ns : List ℕ) (i : ℕ) → i < length ns → numbers_text word (take i ns) ++ behind_comma (decimal (get_or ns i 0)) ≡ numbers_text word (take (i + 1) ns)
-numbers_more word ns i h = flat_map_more (λ n. behind_comma (decimal n)) word (take i ns) (get_or ns i 0) ∙ ap (numbers_text word) (sym (take_more ns i 0 h))
+pub numbers_more : (word ns : List ℕ) (i : ℕ) → i < length ns
+    → numbers_text word (take i ns) ++ behind_comma (decimal (get_or ns i 0))
+    ≡ numbers_text word (take (i + 1) ns)
+numbers_more word ns i h = flat_map_more (λ n. behind_comma (decimal n)) word (take i ns)
+    (get_or ns i 0) ∙ ap (numbers_text word) (sym (take_more ns i 0 h))

@@ -2,7 +2,7 @@
 use Rattle.std.specs.Prelude.{ℕ, List, [], ◌∷◌, ◌++◌, codes, decimal}
 use Rattle.std.specs.List.{flat_map}
 use Rattle.told.specs.declared.Told.{Told}
-use Rattle.reading.specs.Steps.{Said, covers, finds, accepts, lifts, lay_refuses, find_refuses, put_refuses}
+use Rattle.reading.specs.Steps.{Said, covers, finds, accepts, lifts, refuses}
 use Rattle.listing.specs.Rows.{behind_comma, told_text}
 
 -- a word and numbers behind it
@@ -13,12 +13,11 @@ numbers_text word ns = word ++ flat_map (λ n. behind_comma (decimal n)) ns
 abbrev pub refused_text : Told → List ℕ
 refused_text t = codes "fault" ++ behind_comma (told_text t)
 
--- the number of pieces and what they cover; the row, place and width of a piece; or the refusal's number and values
+-- the number of pieces and what they cover; the row, place and width of a piece; or the refusal's
+-- number and values
 abbrev pub said_text : Said → List ℕ
 said_text (covers n w) = numbers_text (codes "laid") (n ∷ w ∷ [])
 said_text (finds r p w) = numbers_text (codes "found") (r ∷ p ∷ w ∷ [])
 said_text accepts = codes "put"
 said_text lifts = codes "lifted"
-said_text (lay_refuses t) = refused_text t
-said_text (find_refuses t) = refused_text t
-said_text (put_refuses t) = refused_text t
+said_text (refuses t e) = refused_text t

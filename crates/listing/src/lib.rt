@@ -8,12 +8,13 @@ ghost use Rattle.cells.specs.Captured.{opened};
 ghost use Rattle.sheet_text.specs.Rows.{laid as in_table};
 ghost use Rattle.sheet.specs.Keeps.{Keeps};
 ghost use Rattle.sheet.specs.Sheets.{read_of, rows_of, text_of};
-ghost use Rattle.meaning.specs.Readings.{matched};
+ghost use Rattle.meaning.specs.Laying.{laid_in};
 ghost use Rattle.meaning.specs.Terms.{pieces_of};
 ghost use Rattle.reading.specs.Calls.{said};
 ghost use Rattle.reading.specs.Outcomes.{laid_over};
 ghost use Rattle.input.specs.Parts.{sheet_text, capture_text};
-ghost use Rattle.listing.specs.Lines.{fault, lines_of, left, left_by, message_text, of_message, whole_text, listing};
+ghost use Rattle.listing.specs.Lines.{fault, lines_of, left, left_by, message_text, of_message};
+ghost use Rattle.listing.specs.Lines.{whole_text, listing};
 ghost use Rattle.listing.specs.Said.{said_text};
 
 use answers::Answers;
@@ -52,18 +53,24 @@ pub fn write_fault(told: Told, out: &mut Line<'_>) -> Result<(), Full>
     out.push(&Refused { told })
 }
 
-/// Appends the listing of a message by a sheet, or refuses and changes nothing in the line. The pieces stand
-/// first in the list afterwards, as far as they were placed.
+/// Appends the listing of a message by a sheet, or refuses and changes nothing in the line. The
+/// pieces stand first in the list afterwards, as far as they were placed.
 pub fn write_message<S: Source>(
     sheet: &CheckedSheet<'_, '_>,
     source: &S,
     pieces: &mut [Piece],
     out: &mut Line<'_>,
 ) -> Result<(), Full>
-    ensures value { Appends out.old (message_text (text_of sheet.now) (rows_of sheet.now) (length pieces.old) (S.Source.cells source.now)) result out.new }
-    ensures entries { pieces_of pieces.new ≡ laid_over (matched (text_of sheet.now) (rows_of sheet.now) (S.Source.cells source.now) (length pieces.old)) (pieces_of pieces.old) }
+    ensures value { Appends out.old
+        (message_text (text_of sheet.now) (rows_of sheet.now) (length pieces.old)
+        (S.Source.cells source.now)) result out.new }
+    ensures entries { pieces_of pieces.new
+        ≡ laid_over
+        (laid_in (text_of sheet.now) (rows_of sheet.now) (S.Source.cells source.now)
+        (length pieces.old)) (pieces_of pieces.old) }
     ensures fits { length pieces.old ≤ PIECES_MAX → length (S.Source.cells source.now) ≤ 30000
-        → length (message_text (text_of sheet.now) (rows_of sheet.now) (length pieces.old) (S.Source.cells source.now)) ≤ LISTING_MAX }
+        → length (message_text (text_of sheet.now) (rows_of sheet.now) (length pieces.old)
+        (S.Source.cells source.now)) ≤ LISTING_MAX }
 {
     match lay(sheet, source, pieces, &mut Laid::nothing()) {
         Ok(cover) => out.push(&Laying {
@@ -85,10 +92,19 @@ fn write_capture(
     pieces: &mut [Piece],
     out: &mut Line<'_>,
 ) -> Result<(), Full>
-    ensures value { Appends out.old (whole_text (lines_of (of_message (text_of sheet.now) (rows_of sheet.now) (length pieces.old) (opened capture.now)))) result out.new }
-    ensures entries { pieces_of pieces.new ≡ left_by (text_of sheet.now) (rows_of sheet.now) (length pieces.old) (pieces_of pieces.old) (opened capture.now) }
+    ensures value { Appends out.old
+        (whole_text
+        (lines_of
+        (of_message (text_of sheet.now) (rows_of sheet.now) (length pieces.old)
+        (opened capture.now)))) result out.new }
+    ensures entries { pieces_of pieces.new
+        ≡ left_by (text_of sheet.now) (rows_of sheet.now) (length pieces.old) (pieces_of pieces.old)
+        (opened capture.now) }
     ensures fits { length pieces.old ≤ PIECES_MAX → length capture.now ≤ INPUT_MAX
-        → length (whole_text (lines_of (of_message (text_of sheet.now) (rows_of sheet.now) (length pieces.old) (opened capture.now)))) ≤ LISTING_MAX }
+        → length (whole_text
+        (lines_of
+        (of_message (text_of sheet.now) (rows_of sheet.now) (length pieces.old)
+        (opened capture.now)))) ≤ LISTING_MAX }
 {
     match Capture::open(capture) {
         Ok(source) => write_message(sheet, &source, pieces, out),
@@ -107,10 +123,17 @@ fn write_rows(
     out: &mut Line<'_>,
 ) -> Result<(), Full>
     requires { Keeps text.now rows.now }
-    ensures value { Appends out.old (whole_text (lines_of (of_message text.now rows.now (length pieces.old) (opened capture.now)))) result out.new }
-    ensures entries { pieces_of pieces.new ≡ left_by text.now rows.now (length pieces.old) (pieces_of pieces.old) (opened capture.now) }
+    ensures value { Appends out.old
+        (whole_text
+        (lines_of (of_message text.now rows.now (length pieces.old) (opened capture.now)))) result
+        out.new }
+    ensures entries { pieces_of pieces.new
+        ≡ left_by text.now rows.now (length pieces.old) (pieces_of pieces.old)
+        (opened capture.now) }
     ensures fits { length pieces.old ≤ PIECES_MAX → length capture.now ≤ INPUT_MAX
-        → length (whole_text (lines_of (of_message text.now rows.now (length pieces.old) (opened capture.now)))) ≤ LISTING_MAX }
+        → length (whole_text
+        (lines_of (of_message text.now rows.now (length pieces.old) (opened capture.now)))) ≤
+        LISTING_MAX }
 {
     let mut sheet = CheckedSheet::built_in();
     let Ok(()) = sheet.fill(text, rows) else {
@@ -120,19 +143,24 @@ fn write_rows(
 }
 
 /// Appends the listing of an input, or refuses and changes nothing in the line. The rows of the
-/// sheet stand in the table afterwards, as far as they were read, and the pieces in the list, as far as they
-/// were placed.
+/// sheet stand in the table afterwards, as far as they were read, and the pieces in the list, as
+/// far as they were placed.
 pub fn write_listing(
     bytes: &[u8],
     table: &mut [Row],
     pieces: &mut [Piece],
     out: &mut Line<'_>,
 ) -> Result<(), Full>
-    ensures value { Appended out.old (listing (length table.old) (length pieces.old) bytes.now) result out.new }
-    ensures entries { pieces_of pieces.new ≡ left (length table.old) (length pieces.old) (pieces_of pieces.old) (sheet_text bytes.now) (capture_text bytes.now) }
-    ensures rows { table.new ≡ in_table (read_of (sheet_text bytes.now) (length table.old)).rows table.old }
+    ensures value { Appended out.old
+        (listing (length table.old) (length pieces.old) bytes.now) result out.new }
+    ensures entries { pieces_of pieces.new
+        ≡ left (length table.old) (length pieces.old) (pieces_of pieces.old) (sheet_text bytes.now)
+        (capture_text bytes.now) }
+    ensures rows { table.new ≡ in_table (read_of (sheet_text bytes.now) (length table.old)).rows
+        table.old }
     ensures lender { out.new.places.ghost_name ≡ out.old.places.ghost_name }
-    ensures fits { length pieces.old ≤ PIECES_MAX → length (listing (length table.old) (length pieces.old) bytes.now) ≤ LISTING_MAX }
+    ensures fits { length pieces.old ≤ PIECES_MAX
+        → length (listing (length table.old) (length pieces.old) bytes.now) ≤ LISTING_MAX }
 {
     let input = Input::of(bytes);
     match read_sheet(input.sheet, table) {

@@ -14,6 +14,7 @@ use std::io;
 use told::Told;
 
 mod deep;
+mod session;
 
 fn show(rt: &HostRuntime, answer: Result<u8, ReadFault>) -> io::Result<()> {
     match answer {
@@ -150,6 +151,7 @@ fn run(rt: &HostRuntime) -> anyhow::Result<()> {
     past_bytes(rt)?;
     past_words(rt)?;
     held_layers(rt)?;
+    session::over_piles(rt)?;
     Ok(())
 }
 

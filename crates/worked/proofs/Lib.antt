@@ -1,2 +1,3 @@
 pub mod Layings
 pub mod Puttings
+pub mod Listings

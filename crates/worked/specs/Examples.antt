@@ -8,8 +8,11 @@ use Rattle.cells.specs.Cells.{read_of}
 use Rattle.layers.specs.Layers.{swapped, windowed}
 use Rattle.cells.specs.Captured.{opened}
 use Rattle.cells.specs.Refusals.{bad_pair, lost_cell}
-use Rattle.worked.specs.Layings.{SheetsAccepted, TwoPoints, LostCount, ListOfTwo, CutPoint, EmptyRecords, VoidOpened, AboveLimit, CountInBothVersions, CountBehindArray, OwnCounts}
+use Rattle.worked.specs.Layings.{SheetsAccepted, TwoPoints, LostCount, ListOfTwo, CutPoint}
+use Rattle.worked.specs.Layings.{EmptyRecords, VoidOpened, AboveLimit, CountInBothVersions}
+use Rattle.worked.specs.Layings.{CountBehindArray, OwnCounts}
 use Rattle.worked.specs.Puttings.{PutsToPoints}
+use Rattle.worked.specs.Listings.{PointsListed}
 
 abbrev mark : ℕ → ℕ → Mark
 mark place layers = record { place = place; layers = layers }
@@ -24,11 +27,13 @@ WindowOnFour = (a b c d : Cell) → length (windowed 2 5 (a ∷ b ∷ c ∷ d �
 
 -- the capture `aa--ffec`
 abbrev pub CaptureOfFour : Type 0
-CaptureOfFour = opened (codes "aa--ffec") ≡ given (Byte 170 ∷ Lost (mark 1 0) ∷ Byte 255 ∷ Byte 236 ∷ [])
+CaptureOfFour = opened (codes "aa--ffec")
+    ≡ given (Byte 170 ∷ Lost (mark 1 0) ∷ Byte 255 ∷ Byte 236 ∷ [])
 
 -- under a window (1, 3) its lost cell is refused with lost place 1 and layers 1
 abbrev pub LostUnderWindow : Type 0
-LostUnderWindow = (cells : List Cell) → opened (codes "aa--ffec") ≡ given cells → read_of (windowed 1 3 cells) 0 ≡ refused (lost_cell (mark 1 1))
+LostUnderWindow = (cells : List Cell) → opened (codes "aa--ffec") ≡ given cells
+    → read_of (windowed 1 3 cells) 0 ≡ refused (lost_cell (mark 1 1))
 
 -- `00f` is refused at 2
 abbrev pub CutPair : Type 0
@@ -52,3 +57,4 @@ pub record Examples : Type 0 where
   pub count_behind_array : CountBehindArray
   pub own_counts : OwnCounts
   pub puts_to_points : PutsToPoints
+  pub points_listed : PointsListed

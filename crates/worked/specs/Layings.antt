@@ -1,9 +1,11 @@
 -- The worked examples of laying.
-use Rattle.std.specs.Prelude.{◌≡◌, [], ◌∷◌, Some, None, codes}
+use Rattle.std.specs.Prelude.{◌≡◌, [], ◌∷◌, Some, codes}
 use Rattle.told.specs.Answers.{given, refused}
 use Rattle.path.specs.Meaning.{field, element}
 use Rattle.meaning.specs.Matcher.{accepted}
-use Rattle.worked.specs.Sheets.{Accepted, laying, tells, refusal, piece, points, empty, empties, too_many_empties, nothing, then_nothing, above, above_or, two_versions, count_behind, own_counts}
+use Rattle.worked.specs.Sheets.{Accepted, laying, tells, refusal, piece, points, empty, empties}
+use Rattle.worked.specs.Sheets.{too_many_empties, nothing, then_nothing, above, above_or}
+use Rattle.worked.specs.Sheets.{two_versions, count_behind, own_counts}
 
 -- the sheets are accepted
 pub record SheetsAccepted : Type 0 where
@@ -34,7 +36,7 @@ TwoPoints =
 abbrev pub LostCount : Type 0
 LostCount =
     tells points "--ffec" 512
-    ≡ refused (record { number = 16; line = None; row = Some 4; place = Some 1; pieces = Some 1; lost = Some 0; layers = Some 0 })
+    ≡ refused (record (refusal 16 4 1 1) { lost = Some 0; layers = Some 0 })
 
 -- a list of two places is full at place 3
 abbrev pub ListOfTwo : Type 0
@@ -42,7 +44,8 @@ ListOfTwo = tells points "02ffec000a7f" 2 ≡ refused (refusal 14 8 3 2)
 
 -- the first point passes the end: 11 at place 1, also where the list is full
 abbrev pub CutPoint : Type 0
-CutPoint = (tells points "02ff" 512 ≡ refused (refusal 11 8 1 1)) × (tells points "02ff" 1 ≡ refused (refusal 11 8 1 1))
+CutPoint = (tells points "02ff" 512 ≡ refused (refusal 11 8 1 1))
+    × (tells points "02ff" 1 ≡ refused (refusal 11 8 1 1))
 
 -- a record without fields covers nothing; so do 65,535 of them; 65,536 are too many
 abbrev pub EmptyRecords : Type 0
@@ -53,11 +56,13 @@ EmptyRecords =
 
 -- a row `void` is opened: at once, and behind a byte
 abbrev pub VoidOpened : Type 0
-VoidOpened = (tells nothing "" 0 ≡ refused (refusal 13 0 0 0)) × (tells then_nothing "02" 512 ≡ refused (refusal 13 5 1 1))
+VoidOpened = (tells nothing "" 0 ≡ refused (refusal 13 0 0 0))
+    × (tells then_nothing "02" 512 ≡ refused (refusal 13 5 1 1))
 
 -- 2^63 - 1 plus 1 has no value, also under `or` after `true`
 abbrev pub AboveLimit : Type 0
-AboveLimit = (tells above "" 0 ≡ refused (refusal 12 0 0 0)) × (tells above_or "" 0 ≡ refused (refusal 12 0 0 0))
+AboveLimit = (tells above "" 0 ≡ refused (refusal 12 0 0 0))
+    × (tells above_or "" 0 ≡ refused (refusal 12 0 0 0))
 
 -- a count that both versions of a head declare is found in either
 abbrev pub CountInBothVersions : Type 0

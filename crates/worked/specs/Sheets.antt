@@ -1,15 +1,15 @@
 -- The sheets of the worked examples, and what laying a capture by one tells.
-use Rattle.std.specs.Prelude.{◌≡◌, ℕ, List, [], ◌∷◌, ◌++◌, Some, None, Ok, codes}
+use Rattle.std.specs.Prelude.{◌≡◌, ℕ, List, [], ◌∷◌, ◌++◌, Some, Ok, codes}
 use Prim.Native.String.{String}
 use Rattle.told.specs.declared.Told.{Told}
-use Rattle.told.specs.Answers.{Answer, given, refused}
+use Rattle.told.specs.Answers.{Answer, given, refused, bare}
 use Rattle.cells.specs.declared.cell.Cell.{Cell}
 use Rattle.cells.specs.Captured.{opened}
 use Rattle.path.specs.Meaning.{Downward}
 use Rattle.sheet.specs.Sheets.{read_of}
 use Rattle.meaning.specs.Terms.{PieceSpec}
 use Rattle.meaning.specs.Matcher.{Laid}
-use Rattle.meaning.specs.Readings.{matched, laid_told}
+use Rattle.meaning.specs.Laying.{laid_in, laid_told}
 
 -- lines, each ended by a line feed
 abbrev pub lines_of : List String → List ℕ
@@ -30,7 +30,8 @@ cells_in (refused t) = []
 
 -- what the matcher makes of a capture by a sheet, into a list of so many places
 abbrev pub laying : List String → String → ℕ → Laid
-laying rows capture room = matched (sheet rows) (read_of (sheet rows) 256).rows (cells_in (opened (codes capture))) room
+laying rows capture room = laid_in (sheet rows) (read_of (sheet rows) 256).rows
+    (cells_in (opened (codes capture))) room
 
 -- the same as it is told
 abbrev pub tells : List String → String → ℕ → Answer (ℕ × ℕ)
@@ -38,7 +39,8 @@ tells rows capture room = laid_told (laying rows capture room)
 
 -- a refusal with its number, the row in front, the place reached and the number of pieces placed
 abbrev pub refusal : ℕ → ℕ → ℕ → ℕ → Told
-refusal n row place pieces = record { number = n; line = None; row = Some row; place = Some place; pieces = Some pieces; lost = None; layers = None }
+refusal n row place pieces =
+    record (bare n) { row = Some row; place = Some place; pieces = Some pieces }
 
 abbrev pub piece : List Downward → ℕ → ℕ → ℕ → PieceSpec
 piece path row place width = record { path = path; row = row; place = place; width = width }
@@ -85,7 +87,8 @@ then_nothing =
 
 -- as many empty records as 2^63 - 1 plus 1
 abbrev pub above : List String
-above = "0,arr,-,1,2,-" ∷ "1,rec,-,-,-,-" ∷ "2,add,-,3,4,-" ∷ "3,lit,-,9223372036854775807,-,-" ∷ "4,lit,-,1,-,-" ∷ []
+above = "0,arr,-,1,2,-" ∷ "1,rec,-,-,-,-" ∷ "2,add,-,3,4,-" ∷ "3,lit,-,9223372036854775807,-,-" ∷
+    "4,lit,-,1,-,-" ∷ []
 
 -- an empty record where true or that sum is below 1
 abbrev pub above_or : List String
@@ -100,7 +103,8 @@ above_or =
     ∷ "7,lit,-,1,-,-"
     ∷ []
 
--- a flag, then a head in one of two versions, each of which declares the count `n`, then as many bytes
+-- a flag, then a head in one of two versions, each of which declares the count `n`, then as many
+-- bytes
 abbrev pub two_versions : List String
 two_versions =
     "0,rec,-,1,-,-"
