@@ -1,8 +1,10 @@
 //! Times the proved library, plain Rust, C and construct on the same messages, and prints tables in markdown.
 
 mod construct;
+mod limits;
 
 use std::hint::black_box;
+use std::path::{Path, PathBuf};
 use std::time::{Duration, Instant};
 
 use balskif::{PLACES_LONG, PLACES_SHORT};
@@ -30,10 +32,16 @@ const PASSES: usize = 4;
 const TURNS: usize = 5;
 const TURN: Duration = Duration::from_millis(20);
 
+const LISTER: &str = concat!(env!("CARGO_MANIFEST_DIR"), "/../crates/lister/out/lister");
+
 /// Long piece lists take much of the stack.
 const STACK: usize = 16 << 20;
 
 fn main() {
+    let lister = std::env::var_os("BALSKIF_LISTER").map_or_else(|| PathBuf::from(LISTER), PathBuf::from);
+    if !print_limits(&lister) {
+        std::process::exit(1);
+    }
     let thread = std::thread::Builder::new().stack_size(STACK).spawn(measure).expect("a thread can be made");
     if thread.join().is_err() {
         std::process::exit(1);
@@ -189,6 +197,24 @@ fn take_turns(calls: &mut [Call], least: &mut [u64]) {
             }
         }
     }
+}
+
+/// Prints how long the lister takes for the inputs that it has to list soon; answers whether it does.
+fn print_limits(lister: &Path) -> bool {
+    println!("Inputs of which little is placed, a whole run of the lister, microseconds:\n");
+    println!("| input | microseconds |\n|---|--:|");
+    let mut are_soon = true;
+    for name in limits::INPUTS {
+        match limits::least_time(lister, name) {
+            Some(time) if time < limits::LIMIT => println!("| {name} | {} |", grouped(time.as_micros() as usize)),
+            _ => {
+                eprintln!("bench: {name} is not listed within {} s", limits::LIMIT.as_secs_f64());
+                are_soon = false;
+            }
+        }
+    }
+    println!();
+    are_soon
 }
 
 fn print_listing(

@@ -59,6 +59,7 @@ pub fn lay_into<M: Message + ?Sized>(
         path: Path::ROOT,
         open: Vec::new(),
         located: HashMap::default(),
+        barren: vec![Barren::default()],
     }
     .lay_type(0)
 }
@@ -75,6 +76,16 @@ struct Matcher<'a, M: ?Sized> {
     open: Vec<usize>,
     /// The placed pieces that some location of the sheet could name.
     located: HashMap<Path, usize, BuildHasherDefault<StepHasher>>,
+    /// For each number of open records, what placed nothing while just these are open.
+    barren: Vec<Barren>,
+}
+
+/// Rows that placed nothing after so many pieces. All that they looked at are pieces below records that were open before,
+/// since no piece lies below a record that has just been opened; so they place nothing at any other path either.
+#[derive(Default)]
+struct Barren {
+    pieces: usize,
+    rows: Vec<RowId>,
 }
 
 impl<M: Message + ?Sized> Matcher<'_, M> {
@@ -83,6 +94,34 @@ impl<M: Message + ?Sized> Matcher<'_, M> {
             Row::Base(base) => self.lay_base(row, base),
             Row::Void => Err(self.fault(row, LayingFault::Void)),
             Row::Rec { .. } | Row::Arr { .. } if self.sheet.is_idle(row) => Ok(()),
+            _ if self.is_barren(row) => Ok(()),
+            _ => {
+                let before = self.pieces.len();
+                self.lay_parts(row)?;
+                if self.pieces.len() == before {
+                    self.note_barren(row);
+                }
+                Ok(())
+            }
+        }
+    }
+
+    fn is_barren(&self, row: RowId) -> bool {
+        let Barren { pieces, rows } = &self.barren[self.open.len()];
+        *pieces == self.pieces.len() && rows.contains(&row)
+    }
+
+    fn note_barren(&mut self, row: RowId) {
+        let Barren { pieces, rows } = &mut self.barren[self.open.len()];
+        if *pieces != self.pieces.len() {
+            *pieces = self.pieces.len();
+            rows.clear();
+        }
+        rows.push(row);
+    }
+
+    fn lay_parts(&mut self, row: RowId) -> Result<(), Fault> {
+        match self.sheet.row(row) {
             Row::Rec { first } => self.lay_record(first),
             Row::Arr { element, count } => self.lay_array(row, element, count),
             Row::Alt { truth, yes, no } => match self.truth(truth) {
@@ -113,6 +152,8 @@ impl<M: Message + ?Sized> Matcher<'_, M> {
     fn lay_record(&mut self, first: Option<RowId>) -> Result<(), Fault> {
         let sheet = self.sheet;
         self.open.push(self.path.len());
+        self.barren.resize_with(self.barren.len().max(self.open.len() + 1), Barren::default);
+        self.barren[self.open.len()].rows.clear();
         for field in sheet.fields(first) {
             self.path.push(Step::Field(field.name));
             self.lay_type(field.kind)?;
