@@ -1,7 +1,6 @@
 pub mod Nths
 pub mod Meanings
 pub mod Lents
-pub mod Digits
 pub mod Captures
 pub mod Faults
 pub mod Tells

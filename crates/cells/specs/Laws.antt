@@ -93,8 +93,18 @@ word_laws =
 pub bytes_length : (bs : List ℕ) → length (byte_cells bs) ≡ min 65535 (length bs)
 bytes_length bs = omega (arith, lent_length byte_laws bs)
 
+pub length_spread : (ws : List ℕ) → length (spread ws) ≡ length ws * 2
+length_spread ws =
+    ap length (words_flat ws) ∙ length-map (flat_map word_bytes ws) Byte ∙ length_bytes word_laws ws
+
+pub words_length : (ws : List ℕ) → length (word_cells ws) ≡ min 32767 (length ws) * 2
+words_length ws = omega (arith, lent_length word_laws ws)
+
 pub bytes_lawful : (bs : List ℕ) → Lawful (byte_cells bs)
 bytes_lawful = lent_lawful byte_laws
+
+pub words_lawful : (ws : List ℕ) → Lawful (word_cells ws)
+words_lawful = lent_lawful word_laws
 
 mark_of : (i : ℕ) (p : Option Pair) → i ≤ 65534 → MarkFits (cell_of i p)
 mark_of i (Some (Digits b)) h = tt

@@ -17,9 +17,16 @@ pub struct Capture<'a> {
 fn first_bad(text: &[u8]) -> Option<usize>
     ensures { result ≡ bad_from 0 text.now }
 {
-    text.chunks(2)
-        .position(|pair| read_pair(pair).is_none())
-        .map(|i| 2 * i)
+    // By number: with `chunks` and `position` opening a capture took up to twice as long.
+    for i in 0..text.len() / 2 {
+        if read_pair(text[2 * i], text[2 * i + 1]).is_none() {
+            return Some(2 * i);
+        }
+    }
+    if text.len() % 2 == 1 {
+        return Some(text.len() - 1);
+    }
+    None
 }
 
 impl<'a> Capture<'a> {
@@ -50,7 +57,7 @@ impl<'a> Source for Capture<'a> {
         if k >= self.len() {
             return Err(ReadFault::PastEnd(k));
         }
-        match read_pair(&self.text[2 * k..2 * k + 2]) {
+        match read_pair(self.text[2 * k], self.text[2 * k + 1]) {
             Some(Pair::Digits(b)) => Ok(b),
             // an opened capture has no bad pair
             Some(Pair::Dashes) | None => Err(ReadFault::LostCell(Mark {

@@ -20,13 +20,20 @@ impl Unit for u16 {
 
     ghost laws = { word_laws };
 
+    // By arithmetic: a byte at a variable place of an array takes half as much time again.
     fn byte(self, i: usize) -> u8 {
-        self.to_be_bytes()[i]
+        if i == 0 {
+            (self / 256) as u8
+        } else {
+            (self % 256) as u8
+        }
     }
 
     fn with_byte(self, i: usize, b: u8) -> u16 {
-        let mut bytes = self.to_be_bytes();
-        bytes[i] = b;
-        u16::from_be_bytes(bytes)
+        if i == 0 {
+            u16::from(b) * 256 + self % 256
+        } else {
+            self / 256 * 256 + u16::from(b)
+        }
     }
 }

@@ -4,7 +4,7 @@ use Rattle.std.proofs.Common.{get_or, take, drop, decimal, sym, refl, ap, ◌∙
 use Rattle.std.proofs.Common.{length-append}
 use Rattle.std.specs.List.{flat_map, slice_get}
 use Rattle.std.proofs.lemmas.List.{flat_map_more, length-drop, get_or-drop, map-append, map_more}
-use Rattle.std.proofs.lemmas.List.{take_more}
+use Rattle.std.proofs.lemmas.List.{length-take-le, take_more}
 use Rattle.std.proofs.lemmas.Grind.{flat_map-append}
 use Rattle.std.proofs.lemmas.Option.{slice_get-get_or}
 use Rattle.cells.specs.Cells.{read_at, answered, cell_read}
@@ -15,7 +15,7 @@ use Rattle.meaning.specs.Terms.{PieceSpec, piece_of, pieces_of}
 use Rattle.listing.specs.Lines.{ended, whole_text}
 use Rattle.listing.specs.Rows.{behind_comma}
 use Rattle.listing.specs.Said.{numbers_text}
-use Rattle.listing.specs.Parts.{cell_text, answer_text}
+use Rattle.listing.specs.Parts.{cell_text, answer_text, bytes_text, part_of}
 use Rattle.line.proofs.Pieces.{part_more}
 
 abbrev blank : Cell
@@ -49,6 +49,30 @@ two (Lost m) = refl
 pub length_cells : (cs : List Cell) → length (flat_map cell_text cs) ≡ 2 * length cs
 length_cells [] = refl
 length_cells (c ∷ cs) = omega (arith, two c, length_cells cs, length-append {A = ℕ})
+
+printed : (cs : List Cell) → 0 < length cs → bytes_text cs ≡ flat_map cell_text cs
+printed [] h = absurd (omega arith)
+printed (c ∷ cs) h = refl
+
+dash : (cs : List Cell) → length cs ≡ 0 → bytes_text cs ≡ bytes_text []
+dash [] h = refl
+dash (c ∷ cs) h = absurd (omega arith)
+
+-- how long a part is in print that ends at e, behind its place p
+module _ (cs : List Cell) (p w e : ℕ) (within : e ≤ length cs)
+    (part : take (e - p) (drop p cs) ≡ part_of cs p w) where
+  part_length : length (part_of cs p w) ≡ e - p
+  part_length =
+      let l = length-drop p cs in
+      ap length (sym part) ∙ length-take-le (e - p) (drop p cs) (omega arith)
+
+  pub some_size : p < e → length (bytes_text (part_of cs p w)) ≡ 2 * (e - p)
+  some_size h =
+      ap length (printed (part_of cs p w) (omega (arith, part_length)))
+      ∙ length_cells (part_of cs p w) ∙ ap (λ n. 2 * n) part_length
+
+  pub none_size : e ≤ p → length (bytes_text (part_of cs p w)) ≡ 1
+  none_size h = ap length (dash (part_of cs p w) (part_length ∙ omega arith))
 
 -- one line more, each of a piece
 pub piece_more : (line : PieceSpec → List ℕ) (ps : List Piece) (i : ℕ) (p : Piece) → i < length ps

@@ -36,6 +36,10 @@ raise : (len : ℕ) (lens : List ℕ) (n : ℕ) → Below len lens n → below l
 raise len lens zero h = refl
 raise len lens (suc n) h = ap₂ ◌&&◌ (le-leb (get_or lens n 0) len h.0) (raise len lens n h.1)
 
+pub length_fronts : (P : List Downward) (lens : List ℕ) (n : ℕ) → length (fronts P lens n) ≡ n
+length_fronts P lens zero = refl
+length_fronts P lens (suc n) = ap suc (length_fronts P lens n)
+
 -- the same fronts of a longer path
 front_longer : (P Q : List Downward) (lens : List ℕ) (n : ℕ) → Below (length P) lens n
     → fronts (P ++ Q) lens n ≡ fronts P lens n
